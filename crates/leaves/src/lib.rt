@@ -1,0 +1,3 @@
+// The trees that hold no other tree.
+
+pub mod stair;

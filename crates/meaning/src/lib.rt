@@ -1,0 +1,4 @@
+// What a tree means, the traits that say it in code, and the definitions of the trees.
+
+pub mod collection;
+pub mod traits;
