@@ -35,13 +35,6 @@ impl<'a> Tape<'a> {
     {
         Tape { words, place: 0 }
     }
-
-    // How many words were given.
-    pub fn place(&self) -> usize
-        ensures { λ r. ⌜ r ≡ now (self .entry) .place ⌝ }
-    {
-        self.place
-    }
 }
 
 pub impl<'a> Source for Tape<'a> as TapeSource {

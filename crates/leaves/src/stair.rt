@@ -55,7 +55,7 @@ pub impl ValueTree for Stair as StairValueTree {
     }
 
     fn len(&self) -> usize {
-        if self.grown { 1 } else { 0 }
+        usize::from(self.grown)
     }
 
     fn item(&self, i: usize) -> Option<u64> {
@@ -107,6 +107,9 @@ pub struct Stairs {
 }
 
 impl Stairs {
+    // A stair shows one item.
+    const LONGEST: usize = 1;
+
     pub fn new(limit: u64) -> Stairs
         ensures { λ r. ⌜ r .limit ≡ limit ⌝ }
     {
@@ -118,7 +121,7 @@ pub impl Strategy for Stairs as StairsStrategy {
     type Tree = Stair;
 
     fn longest(&self) -> usize {
-        1
+        Stairs::LONGEST
     }
 
     fn lacks_slots(&self, place: &Stair) -> bool {

@@ -3,6 +3,7 @@ pub mod Places
 pub mod Growths
 pub mod Readings
 pub mod Faults
+pub mod Sizes
 pub mod Stairs
 pub mod Tables
 pub mod Vectors

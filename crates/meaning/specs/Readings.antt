@@ -1,7 +1,6 @@
 -- Reading a candidate.
 --   counted    how many items a reading says: a count past the largest usize says the largest
 --   item-at    item number i of a list, from 0, or none past its end
---   over       a buffer with its first items replaced by those of a list, as far as the buffer goes
 --   reading    the answer of reading a candidate into a buffer of n items: its length, or the refusal where it is longer
 --   read-into  the buffer after such a reading: unchanged where it was refused
 --   read-number  the number of a refused reading
@@ -15,6 +14,7 @@ use Rattle.std.specs.declared.option.Option.{Option}
 use Rattle.std.specs.declared.option.Option.the-variants.{None, Some}
 use Rattle.std.specs.declared.result.Result.{Result}
 use Rattle.std.specs.declared.result.Result.the-variants.{Ok, Err}
+use Rattle.buffers.specs.Over.{over}
 use Rattle.meaning.specs.declared.traits.ReadFault.{ReadFault}
 use Rattle.meaning.specs.declared.traits.ReadFault.the-variants.{TooShort}
 
@@ -25,11 +25,6 @@ abbrev pub item-at : {I : Type 0} → List I → ℕ → Option I
 item-at [] i = None
 item-at (x ∷ xs) zero = Some x
 item-at (x ∷ xs) (suc i) = item-at xs i
-
-abbrev pub over : {I : Type 0} → List I → List I → List I
-over [] buffer = buffer
-over (x ∷ xs) [] = []
-over (x ∷ xs) (b ∷ buffer) = x ∷ over xs buffer
 
 abbrev pub reading : {I : Type 0} → List I → ℕ → Result ℕ ReadFault
 reading xs n = cond (ltb n (counted (length xs))) (Err TooShort) (Ok (counted (length xs)))

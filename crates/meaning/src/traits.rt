@@ -2,12 +2,13 @@ ghost use mathlib.Core.Path.{_≡_};
 ghost use mathlib.Core.Bool.{Bool};
 ghost use Prim.Native.Nat.{ℕ, min};
 ghost use lib.ListN.{length};
+ghost use Rattle.buffers.specs.Over.{over};
 ghost use Rattle.draws.specs.Runners.{run};
 ghost use Rattle.meaning.specs.Trees.{Steps};
 ghost use Rattle.meaning.specs.Growths.{Growth};
 ghost use Rattle.meaning.specs.Tables.{TableGrowth};
 ghost use Rattle.meaning.specs.Faults.{strategy-number};
-ghost use Rattle.meaning.specs.Readings.{counted, item-at, over, reading, read-into, read-number};
+ghost use Rattle.meaning.specs.Readings.{counted, item-at, reading, read-into, read-number};
 
 use draws::faults::GrowFault;
 use draws::source::Source;

@@ -14,9 +14,10 @@ use lib.Seq.{drop-cons, length-take-le}
 use Rattle.std.specs.declared.option.Option.{Option}
 use Rattle.std.specs.declared.option.Option.the-variants.{None, Some}
 use Rattle.std.proofs.shelf.Parts.{between-to-end}
-use Rattle.meaning.specs.Readings.{counted, item-at, over}
+use Rattle.buffers.specs.Over.{over}
+use Rattle.buffers.proofs.Overs.{length-over, over-append-within}
+use Rattle.meaning.specs.Readings.{counted, item-at}
 use Rattle.meaning.specs.Vectors.{joined}
-use Rattle.meaning.proofs.Over.{length-over, over-append}
 
 -- what is left to join from element i on
 abbrev pub joined-from : {I : Type 0} → (ℕ → List I) → List Bool → ℕ → List I
@@ -167,7 +168,7 @@ module _ {I : Type 0} {f : ℕ → List I} {inc : List Bool} {b0 : List I} {i n 
       ∙ ap (λ (x : List I). x ++ over rest (drop (n + m) (take n b ++ part))) (take-after (take n b) part n m front)
       ∙ ap (λ (x : List I). (take n b ++ take m part) ++ over rest x) (drop-after (take n b) part n m front)
       ∙ append-assoc (take n b) (take m part) (over rest (drop m part))
-      ∙ ap (λ (x : List I). take n b ++ x) (over-append (f i) rest (drop n b) m p)
+      ∙ ap (λ (x : List I). take n b ++ x) (over-append-within (f i) rest (drop n b) m p)
       ∙ ap (λ (x : List I). take n b ++ over x (drop n b)) (sym whole)
       ∙ c .same
     }

@@ -1,5 +1,4 @@
 pub mod Bits
-pub mod Slots
 pub mod Joining
 pub mod Walking
 pub mod Growing

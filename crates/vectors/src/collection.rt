@@ -7,26 +7,26 @@ ghost use Rattle.std.specs.Results.{Cases};
 ghost use Rattle.std.specs.declared.result.Result.the-variants.{Ok, Err};
 ghost use Rattle.draws.specs.Runners.{run};
 ghost use Rattle.meaning.specs.Places.{Place};
-ghost use Rattle.meaning.specs.Readings.{counted, item-at, over};
+ghost use Rattle.buffers.specs.Over.{over};
+ghost use Rattle.meaning.specs.Readings.{counted, item-at};
 ghost use Rattle.meaning.specs.Vectors.{VecTree, joined, Walked, walk, vec-steps, grow-from, vec-making, vec-short, vec-stated, vec-growth};
 ghost use Rattle.vectors.specs.Members.{bits-of};
 
 use crate::included::Included;
-use crate::size_range::SizeRange;
-use crate::slice_table::SliceStrategy;
-use crate::slice_table::SliceStrategyStrategy;
-use crate::slice_table::SliceTable;
-use crate::slice_table::SliceTableTable;
 use draws::faults::GrowFault;
 use draws::faults::GrowFromDraw;
 use draws::source::Source;
 use draws::test_runner::TestRunner;
 use meaning::collection::Shrink;
+use meaning::size_range::SizeRange;
 use meaning::traits::Strategy;
 use meaning::traits::StrategyFault;
 use meaning::traits::Table;
 use meaning::traits::TableStrategy;
 use meaning::traits::ValueTree;
+use tables::slice_table::SliceStrategy;
+use tables::slice_table::SliceStrategyStrategy;
+use tables::slice_table::SliceTableTable;
 
 // A vector: the elements of a table, of which the included ones are members. Its candidate joins theirs.
 #[derive(Drop)]

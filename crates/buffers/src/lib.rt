@@ -1,0 +1,1 @@
+// What a buffer holds after a write into it: the definitions are in specs/, their laws in proofs/.

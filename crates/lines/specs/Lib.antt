@@ -1,0 +1,2 @@
+-- Lines: what a line says, and its bytes.
+pub mod Lines
