@@ -18,15 +18,15 @@ extern "C" {
 
 /* Runs a plan (docs/PLAN.md) and writes the lines that answer it (docs/LINES.md) to `out`.
  *
- * Answers how many bytes the lines have. Where that is at most `out_len`, they are the first bytes of
- * `out`, and the bytes behind them are as they were. Where it is more, `out` is too short: this is the
- * refusal 7, and no byte of `out` was changed. Every other refusal is a line of its own in `out`.
+ * Answers 0 where the lines were written: they are the first `*len` bytes of `out`, and the bytes behind
+ * them are as they were. Answers 7 where `out` is too short for them: then neither `out` nor `*len` was
+ * changed. Every other refusal (docs/REFUSALS.md) is a line of its own in `out`.
  *
- * The caller owes `plan_len` readable bytes at `plan` and `out_len` writable bytes at `out`, which do not
- * overlap. Neither pointer is NULL, even where its length is 0. Nothing is kept after the call, and
- * nothing is allocated.
+ * The caller owes `plan_len` readable bytes at `plan`, `out_len` writable bytes at `out` and a writable
+ * `size_t` at `len`, none of which overlap. No pointer is NULL, even where its length is 0. Nothing is kept
+ * after the call, and nothing is allocated.
  */
-size_t reducer_session(const uint8_t *plan, size_t plan_len, uint8_t *out, size_t out_len);
+uint32_t reducer_session(const uint8_t *plan, size_t plan_len, uint8_t *out, size_t out_len, size_t *len);
 
 #ifdef __cplusplus
 }

@@ -3,6 +3,7 @@ ghost use mathlib.Core.Bool.{false};
 ghost use Rattle.std.specs.declared.option.Option.the-variants.{None};
 ghost use Rattle.meaning.specs.Places.{Place};
 ghost use Rattle.meaning.specs.Stairs.{StairTree, stair-steps, stair-growth};
+ghost use Rattle.meaning.specs.StairLaws.{stair-total, stair-keeps, stair-roots};
 
 use draws::faults::GrowFault;
 use draws::faults::GrowFromDraw;
@@ -45,6 +46,14 @@ pub impl ValueTree for Stair as StairValueTree {
     ghost grows = { stair-growth (λ p. p .limit) };
 
     ghost stated = { λ p. 1 };
+
+    ghost sound = { λ s. Unit {0} };
+
+    ghost total = { stair-total };
+
+    ghost keeps = { stair-keeps };
+
+    ghost roots = { stair-roots (λ p. p .limit) };
 
     fn is_grown(&self) -> bool {
         self.grown

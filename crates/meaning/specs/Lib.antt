@@ -1,9 +1,14 @@
 pub mod Trees
 pub mod Places
+pub mod PlaceLaws
 pub mod Growths
+pub mod GrowthLaws
 pub mod Readings
 pub mod Faults
 pub mod Sizes
 pub mod Stairs
+pub mod StairLaws
 pub mod Tables
+pub mod TableLaws
 pub mod Vectors
+pub mod VectorLaws

@@ -8,6 +8,8 @@
 --   Steps        a kind of tree with states S and items I: its readings and its two steps
 --   Meant        the candidate, home and steps back of one state
 --   Simplifies, Complicates   what the two steps mean by their answers
+--   Ends         the steps back fall with complicate's answers
+--   SimplifyKept, ComplicateKept   what a step keeps: soundness, the meaning of its answer, the longest
 --   Total        what holds of a kind of tree at every state, reached or not
 --   Keeps        what holds of it at every state that is sound, where soundness is kept by its steps
 
@@ -60,6 +62,15 @@ abbrev pub Falls : ℕ → Bool → ℕ → Type 0
 Falls before true now = now < before
 Falls before false now = now ≤ before
 
+abbrev pub Ends : {S I : Type 0} → Steps S I → S → Type 0
+Ends t s = Falls (t .back s) (t .complicate s .answer) (t .back (t .complicate s .tree))
+
+abbrev pub SimplifyKept : {S I : Type 0} → Steps S I → (S → Type 0) → S → Stepped S → Type 0
+SimplifyKept t sound s r = sound (r .tree) × Simplifies (meant t s) (r .answer) (meant t (r .tree)) × (t .longest (r .tree) ≡ t .longest s)
+
+abbrev pub ComplicateKept : {S I : Type 0} → Steps S I → (S → Type 0) → S → Stepped S → Type 0
+ComplicateKept t sound s r = sound (r .tree) × Complicates (meant t s) (r .answer) (meant t (r .tree)) × (t .longest (r .tree) ≡ t .longest s)
+
 -- a blank tree: the empty candidate, no step, nothing stated
 pub record Blank {S I : Type 0} (t : Steps S I) (s : S) : Type 0 where
   pub shows-none : t .candidate s ≡ []
@@ -70,7 +81,7 @@ pub record Blank {S I : Type 0} (t : Steps S I) (s : S) : Type 0 where
   pub no-complicate : t .complicate s .answer ≡ false
 
 pub record Total {S I : Type 0} (t : Steps S I) : Type 0 where
-  pub ends : (s : S) → Falls (t .back s) (t .complicate s .answer) (t .back (t .complicate s .tree))
+  pub ends : (s : S) → Ends t s
   pub simplify-grown : (s : S) → t .grown (t .simplify s .tree) ≡ t .grown s
   pub complicate-grown : (s : S) → t .grown (t .complicate s .tree) ≡ t .grown s
   pub blank : (s : S) → t .grown s ≡ false → Blank t s
@@ -78,5 +89,5 @@ pub record Total {S I : Type 0} (t : Steps S I) : Type 0 where
 
 pub record Keeps {S I : Type 0} (t : Steps S I) (sound : S → Type 0) : Type 0 where
   pub fits : (s : S) → sound s → length (t .candidate s) ≤ t .longest s
-  pub simplify : (s : S) → sound s → sound (t .simplify s .tree) × Simplifies (meant t s) (t .simplify s .answer) (meant t (t .simplify s .tree)) × (t .longest (t .simplify s .tree) ≡ t .longest s)
-  pub complicate : (s : S) → sound s → sound (t .complicate s .tree) × Complicates (meant t s) (t .complicate s .answer) (meant t (t .complicate s .tree)) × (t .longest (t .complicate s .tree) ≡ t .longest s)
+  pub simplify : (s : S) → sound s → SimplifyKept t sound s (t .simplify s)
+  pub complicate : (s : S) → sound s → ComplicateKept t sound s (t .complicate s)

@@ -2,6 +2,7 @@
 --   members        how many elements are included
 --   VecTree        the table of its elements; which of those grown are members; the fewest members (min-size); what it does
 --                  next (shrink); what it did last and can undo (prev-shrink); the longest
+--   vec-blank      a place over a table, before any growth
 --   joined         the members' candidates, joined by index
 --   walk           simplify on the members from number i on, until one answers true
 --   bare-vector    simplify deletes the element at the cursor while more than the fewest are members, and then simplifies
@@ -51,6 +52,10 @@ pub record VecTree (T : Type 0) : Type 0 where
   pub shrink : Shrink
   pub prev-shrink : Option Shrink
   pub longest : ℕ
+
+-- a place over a table, before any growth
+abbrev pub vec-blank : {T : Type 0} → T → Place (VecTree T)
+vec-blank t = record { grown = false; tree = record { elements = t; included = []; min-size = 0; shrink = DeleteElement 0; prev-shrink = None; longest = 0 } }
 
 abbrev pub joined : {I : Type 0} → (ℕ → List I) → ℕ → List Bool → List I
 joined f i [] = []

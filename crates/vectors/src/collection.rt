@@ -9,8 +9,11 @@ ghost use Rattle.draws.specs.Runners.{run};
 ghost use Rattle.meaning.specs.Places.{Place};
 ghost use Rattle.buffers.specs.Over.{over};
 ghost use Rattle.meaning.specs.Readings.{counted, item-at};
-ghost use Rattle.meaning.specs.Vectors.{VecTree, joined, Walked, walk, vec-steps, grow-from, vec-making, vec-short, vec-stated, vec-growth};
-ghost use Rattle.vectors.specs.Members.{bits-of};
+ghost use Rattle.meaning.specs.Vectors.{VecTree, vec-blank, joined, Walked, walk, vec-steps, grow-from, vec-making, vec-short, vec-stated, vec-growth};
+ghost use Rattle.meaning.specs.VectorLaws.{vec-sound};
+ghost use Rattle.meaning.proofs.VectorSteps.{vec-total, vec-keeps};
+ghost use Rattle.meaning.proofs.VectorGrowth.{vec-roots};
+ghost use Rattle.vectors.specs.Members.{bits-of, vec-state};
 
 use crate::included::Included;
 use draws::faults::GrowFault;
@@ -40,11 +43,10 @@ pub struct VecValueTree<B> {
     grown: bool,
 }
 
-impl<B> VecValueTree<B> {
+impl<B: Table> VecValueTree<B> {
     // A blank place for a vector over a table.
     pub fn place(elements: B) -> VecValueTree<B>
-        ensures table { λ r. ⌜ r .elements ≡ elements ⌝ }
-        ensures blank { λ r. ⌜ r .grown ≡ false ⌝ }
+        ensures { λ r. ⌜ vec-state (B·Table .state) r ≡ vec-blank (B·Table .state elements) ⌝ }
     {
         VecValueTree {
             elements,
@@ -134,7 +136,7 @@ pub impl<B: Table> ValueTree for VecValueTree<B> as VecValueTreeTree {
 
     ghost State = { Place (VecTree (B·Table .State)) };
 
-    ghost state = { λ v. record { grown = v .grown; tree = record { elements = B·Table .state (v .elements); included = bits-of (v .«included_elements»); min-size = v .«min_size»; shrink = v .shrink; prev-shrink = v .«prev_shrink»; longest = v .longest } } };
+    ghost state = { vec-state (B·Table .state) };
 
     ghost steps = { vec-steps (B·Table .rows) };
 
@@ -143,6 +145,14 @@ pub impl<B: Table> ValueTree for VecValueTree<B> as VecValueTreeTree {
     ghost grows = { vec-growth (λ p. p .elements) (λ p. p .size .low) (λ p. p .size .high) (B·Table .stated) (B·Table .short) (B·Table .grows) };
 
     ghost stated = { λ p. vec-stated (B·Table .stated (p .elements)) (p .size .high) };
+
+    ghost sound = { vec-sound (B·Table .rows) (B·Table .sound) };
+
+    ghost total = { vec-total (B·Table .total) };
+
+    ghost keeps = { vec-keeps (B·Table .total) (B·Table .keeps) };
+
+    ghost roots = { vec-roots (λ p. p .elements) (λ p. p .size .low) (λ p. p .size .high) (λ p. (p .size .ordered, p .few)) (B·Table .roots) };
 
     fn is_grown(&self) -> bool {
         self.grown

@@ -1,0 +1,8 @@
+mod Growing
+mod Included
+mod Joining
+mod Walking
+pub mod SliceLaws
+pub mod VectorSteps
+pub mod VectorGrowth
+pub mod SliceVector

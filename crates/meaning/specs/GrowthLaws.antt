@@ -1,0 +1,85 @@
+-- Laws that growths of every kind share.
+--   Gives            what an answer gives: one thing where a growth was accepted, another by its cause where it was refused
+--   gives            from what is told of an accepted answer and of a fault to what an answer gives
+--   Grew             what growing one tree gives, where its place has slots enough: the tree is rooted and states its
+--                    longest; or the fault is not too few slots, and the place is blank
+--   no-slots         the outcome of a growth that has too few slots
+--   unless-no-slots  the growth that asks for its slots first, and then grows as another does
+--   unless-roots     such a growth keeps what every growth should, where the other grew
+--   accepted-is-no-fault, draw-is-not-slots   answers and causes that differ
+
+use mathlib.Core.Path.{_≡_, refl, sym, _∙_, subst}
+use mathlib.Core.Bool.{Bool, false, cond, true≢false}
+use Prim.Native.Nat.{ℕ, _≤_}
+use native.Mathlib.Nat.{le-refl}
+use native.Mathlib.Omega.{arith}
+use Rattle.std.proofs.shelf.Tests.{cond-true, cond-both}
+use Rattle.std.specs.declared.result.Result.the-variants.{Ok, Err}
+use Rattle.draws.specs.Runners.{RunnerState}
+use Rattle.draws.specs.Sources.{Words}
+use Rattle.draws.specs.declared.faults.Cause.{Cause}
+use Rattle.draws.specs.declared.faults.Cause.the-variants.{Slots, Draw, Reject}
+use Rattle.draws.specs.declared.faults.DrawFault.{DrawFault}
+use Rattle.draws.specs.declared.faults.GrowFault.{GrowFault}
+use Rattle.meaning.specs.Trees.{Steps}
+use Rattle.meaning.specs.Growths.{Grown, Outcome, Growth, too-few-slots, Rooted, Refused, Roots}
+
+abbrev pub Gives : Type 0 → (Cause → Type 0) → Grown → Type 0
+Gives Done Failed (Ok _) = Done
+Gives Done Failed (Err fault) = Failed (fault .cause)
+
+pub accepted-is-no-fault : {fault : GrowFault} → _≡_ {A = Grown} (Ok tt) (Err fault) → ⊥
+accepted-is-no-fault e = let clash : _≡_ {A = ℕ} 0 1 = cc in omega arith
+
+pub draw-is-not-slots : {fault : DrawFault} → Draw fault ≡ Slots → ⊥
+draw-is-not-slots e = let clash : _≡_ {A = ℕ} 0 1 = cc in omega arith
+
+same-fault : {one other : GrowFault} → _≡_ {A = Grown} (Err one) (Err other) → one ≡ other
+same-fault e = cc
+
+module _ (Done : Type 0) (Failed : Cause → Type 0) where
+  pub gives : (answer : Grown) → (answer ≡ Ok tt → Done) → ((fault : GrowFault) → answer ≡ Err fault → Failed (fault .cause)) → Gives Done Failed answer
+  gives (Ok _) done failed = done refl
+  gives (Err fault) done failed = failed fault refl
+
+  given-done : (answer : Grown) → Gives Done Failed answer → answer ≡ Ok tt → Done
+  given-done (Ok _) given e = given
+  given-done (Err fault) given e = absurd (accepted-is-no-fault (sym e))
+
+  given-failed : (answer : Grown) → Gives Done Failed answer → (fault : GrowFault) → answer ≡ Err fault → Failed (fault .cause)
+  given-failed (Ok _) given fault e = absurd (accepted-is-no-fault e)
+  given-failed (Err own) given fault e = subst (λ (f : GrowFault). Failed (f .cause)) (same-fault e) given
+
+abbrev pub Grew : {S I : Type 0} → Steps S I → (S → Type 0) → ℕ → S → Grown → Type 0
+Grew t sound stated now = Gives (Rooted t sound now × (t .longest now ≡ stated)) (λ cause. (cause ≡ Slots → ⊥) × (t .grown now ≡ false))
+
+blank-refused : {S I : Type 0} (t : Steps S I) (before now : S) (cause : Cause) → (cause ≡ Slots → ⊥) → t .grown now ≡ false → Refused t cause before now
+blank-refused t before now Slots not-slots blank = absurd (not-slots refl)
+blank-refused t before now (Draw fault) not-slots blank = blank
+blank-refused t before now (Reject fault) not-slots blank = blank
+
+abbrev pub no-slots : {X S : Type 0} → RunnerState X → S → Outcome X S
+no-slots r s = record { answer = Err too-few-slots; runner = r; place = s }
+
+abbrev pub unless-no-slots : {S P : Type 0} → (P → S → Bool) → Growth P S → Growth P S
+unless-no-slots short g p X w r s = cond (short p s) (no-slots r s) (g p X w r s)
+
+pub unless-roots : {S I P : Type 0} (t : Steps S I) (sound : S → Type 0) (short : P → S → Bool) (g : Growth P S) (stated : P → ℕ) →
+    (grew : (p : P) (X : Type 0) (w : Words X) (r : RunnerState X) (s : S) → short p s ≡ false → Grew t sound (stated p) (g p X w r s .place) (g p X w r s .answer))
+    (lasting : (p q : P) (X : Type 0) (w : Words X) (r : RunnerState X) (s : S) → short p s ≡ false → short q (g p X w r s .place) ≡ short q s)
+    (calm : (p : P) (X : Type 0) (w : Words X) (r : RunnerState X) (s : S) → short p s ≡ false → g p X w r s .runner .rejections ≤ r .rejections) →
+    Roots t sound short (unless-no-slots short g) stated
+unless-roots t sound short g stated grew lasting calm = record {
+  accepted = λ p X w r s. cond-both (short p s) (no-slots r s) (g p X w r s) (λ o. o .answer ≡ Ok tt → Rooted t sound (o .place) × (t .longest (o .place) ≡ stated p))
+      (λ few e. absurd (accepted-is-no-fault (sym e)))
+      (λ enough. given-done _ _ _ (grew p X w r s enough));
+  refused = λ p X w r s fault. cond-both (short p s) (no-slots r s) (g p X w r s) (λ o. o .answer ≡ Err fault → Refused t (fault .cause) s (o .place))
+      (λ few e. subst (λ (f : GrowFault). Refused t (f .cause) s s) (same-fault e) refl)
+      (λ enough e. let failed = given-failed _ _ _ (grew p X w r s enough) fault e in blank-refused t s (g p X w r s .place) (fault .cause) (failed .0) (failed .1));
+  told = λ p X w r s. cond-true (short p s) (no-slots r s) (g p X w r s);
+  untold = λ p X w r s fault enough. cond-both (short p s) (no-slots r s) (g p X w r s) (λ o. o .answer ≡ Err fault → fault .cause ≡ Slots → ⊥)
+      (λ few. absurd (true≢false (sym few ∙ enough)))
+      (λ enough e. given-failed _ _ _ (grew p X w r s enough) fault e .0);
+  lasting = λ p q X w r s. cond-both (short p s) (no-slots r s) (g p X w r s) (λ o. short q (o .place) ≡ short q s) (λ few. refl) (lasting p q X w r s);
+  calm = λ p X w r s. cond-both (short p s) (no-slots r s) (g p X w r s) (λ o. o .runner .rejections ≤ r .rejections) (λ few. le-refl (r .rejections)) (calm p X w r s);
+}

@@ -1,0 +1,10 @@
+mod Filling
+mod Cutting
+mod Digits
+mod Gathering
+mod Spelling
+mod Numerals
+mod Joining
+mod ValueTexts
+mod LineTexts
+mod Reading

@@ -1,0 +1,4 @@
+mod Beginning
+mod Playing
+mod Bounds
+mod Running

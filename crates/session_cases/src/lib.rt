@@ -1,0 +1,4 @@
+// Sessions of plans of every shape, compared with the lines that they should print.
+
+#[cfg(test)]
+mod tests;
