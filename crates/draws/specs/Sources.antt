@@ -50,8 +50,8 @@ pub record TapeState : Type 0 where
 
 abbrev pub tape-next : TapeState → Option (Given TapeState)
 tape-next t = cond (ltb (t .place) (length (t .words)))
-  (Some (record { value = getD (t .words) (t .place) 0; left = record { words = t .words; place = t .place + 1 } }))
-  None
+    (Some (record { value = getD (t .words) (t .place) 0; left = record { words = t .words; place = t .place + 1 } }))
+    None
 
 abbrev pub tape-words : Words TapeState
 tape-words = record { next = tape-next; split = λ t. record { child = t; rest = t } }
@@ -72,5 +72,5 @@ seeded n = cond (eqb n 0) 1 n
 abbrev pub generator-words : Words ℕ
 generator-words = record {
   next = λ x. Some (record { value = xorshift x; left = xorshift x });
-  split = λ x. record { child = seeded (xorshift x); rest = xorshift x }
-  }
+  split = λ x. record { child = seeded (xorshift x); rest = xorshift x };
+}

@@ -54,7 +54,10 @@ impl GrowFault {
     pub fn too_few_slots() -> GrowFault
         ensures { λ r. ⌜ r ≡ record { cause = slots; element = None } ⌝ }
     {
-        GrowFault { cause: Cause::Slots, element: None }
+        GrowFault {
+            cause: Cause::Slots,
+            element: None,
+        }
     }
 
     // The same fault, met while element or option number `i` grew: the innermost number stays.
@@ -63,7 +66,10 @@ impl GrowFault {
     {
         match self.element {
             Some(_) => self,
-            None => GrowFault { cause: self.cause, element: Some(i) },
+            None => GrowFault {
+                cause: self.cause,
+                element: Some(i),
+            },
         }
     }
 
@@ -82,7 +88,10 @@ pub impl From<DrawFault> for GrowFault as GrowFromDraw {
     ghost converts = { λ d r. r ≡ record { cause = draw d; element = None } };
 
     fn from(fault: DrawFault) -> GrowFault {
-        GrowFault { cause: Cause::Draw(fault), element: None }
+        GrowFault {
+            cause: Cause::Draw(fault),
+            element: None,
+        }
     }
 }
 
@@ -90,6 +99,9 @@ pub impl From<RejectFault> for GrowFault as GrowFromReject {
     ghost converts = { λ d r. r ≡ record { cause = reject d; element = None } };
 
     fn from(fault: RejectFault) -> GrowFault {
-        GrowFault { cause: Cause::Reject(fault), element: None }
+        GrowFault {
+            cause: Cause::Reject(fault),
+            element: None,
+        }
     }
 }

@@ -70,7 +70,11 @@ impl XorShift {
     pub fn new(seed: u64) -> XorShift
         ensures { λ r. ⌜ r .x ≡ seeded seed ⌝ }
     {
-        if seed == 0 { XorShift { x: 1 } } else { XorShift { x: seed } }
+        if seed == 0 {
+            XorShift { x: 1 }
+        } else {
+            XorShift { x: seed }
+        }
     }
 
     fn step(&mut self) -> u64

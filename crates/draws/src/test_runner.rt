@@ -5,7 +5,6 @@ ghost use Rattle.std.specs.Vec.{made};
 ghost use Rattle.draws.specs.Sources.{word};
 ghost use Rattle.draws.specs.Draws.{drawn, answered};
 ghost use Rattle.draws.specs.Runners.{run, advanced, cloned, parted, regenerated, rejection, rejected};
-
 use crate::faults::DrawFault;
 use crate::faults::RejectFault;
 use crate::source::Source;
@@ -24,7 +23,12 @@ impl<D: Source> TestRunner<D> {
     pub fn new(source: D, cases: u16, regenerations: u16, rejections: u16) -> TestRunner<D>
         ensures { λ r. ⌜ run (D·Source .state) r ≡ record { source = D·Source .state source; cases = cases; regenerations = regenerations; rejections = rejections } ⌝ }
     {
-        TestRunner { source, cases, regenerations, rejections }
+        TestRunner {
+            source,
+            cases,
+            regenerations,
+            rejections,
+        }
     }
 
     // A draw from `low` to `high`, both included.
@@ -36,7 +40,11 @@ impl<D: Source> TestRunner<D> {
         match self.source.next_word() {
             Some(w) => {
                 let span = if low < high { high - low } else { 0 };
-                if span < u64::MAX { Ok(low + w % (span + 1)) } else { Ok(w) }
+                if span < u64::MAX {
+                    Ok(low + w % (span + 1))
+                } else {
+                    Ok(w)
+                }
             }
             None => Err(DrawFault::Spent),
         }
@@ -59,7 +67,12 @@ impl<D: Source> TestRunner<D> {
         ensures left { λ _. ⌜ run (D·Source .state) (now (self .exit)) ≡ parted (D·Source .words) (run (D·Source .state) (now (self .entry))) ⌝ }
     {
         let source = self.source.split();
-        TestRunner { source, cases: self.cases, regenerations: self.regenerations, rejections: self.rejections }
+        TestRunner {
+            source,
+            cases: self.cases,
+            regenerations: self.regenerations,
+            rejections: self.rejections,
+        }
     }
 
     // Whether a regeneration was left, of which one is then used.

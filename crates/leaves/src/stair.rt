@@ -4,7 +4,6 @@ ghost use Rattle.std.specs.declared.option.Option.the-variants.{None};
 ghost use Rattle.meaning.specs.Places.{Place};
 ghost use Rattle.meaning.specs.Stairs.{StairTree, stair-steps, stair-growth};
 ghost use Rattle.meaning.specs.StairLaws.{stair-total, stair-keeps, stair-roots};
-
 use draws::faults::GrowFault;
 use draws::faults::GrowFromDraw;
 use draws::source::Source;
@@ -26,7 +25,12 @@ impl Stair {
     pub fn place() -> Stair
         ensures { λ r. ⌜ r ≡ record { grown = false; value = 0; floor = 0; note = None } ⌝ }
     {
-        Stair { grown: false, value: 0, floor: 0, note: None }
+        Stair {
+            grown: false,
+            value: 0,
+            floor: 0,
+            note: None,
+        }
     }
 }
 
@@ -68,7 +72,11 @@ pub impl ValueTree for Stair as StairValueTree {
     }
 
     fn item(&self, i: usize) -> Option<u64> {
-        if self.grown && i == 0 { Some(self.value) } else { None }
+        if self.grown && i == 0 {
+            Some(self.value)
+        } else {
+            None
+        }
     }
 
     fn copy_to(&self, buf: &mut [u64]) -> usize {
@@ -137,10 +145,19 @@ pub impl Strategy for Stairs as StairsStrategy {
         false
     }
 
-    fn new_tree<D: Source>(&self, runner: &mut TestRunner<D>, place: &mut Stair) -> Result<(), GrowFault> {
+    fn new_tree<D: Source>(
+        &self,
+        runner: &mut TestRunner<D>,
+        place: &mut Stair,
+    ) -> Result<(), GrowFault> {
         place.grown = false;
         let value = runner.draw(0, self.limit)?;
-        *place = Stair { grown: true, value, floor: 0, note: None };
+        *place = Stair {
+            grown: true,
+            value,
+            floor: 0,
+            note: None,
+        };
         Ok(())
     }
 }

@@ -33,5 +33,5 @@ placed t = record {
   longest = λ p. cond (p .grown) (t .longest (p .tree)) 0;
   blank = λ p. record { grown = false; tree = p .tree };
   simplify = λ p. cond (p .grown) (grown-step (t .simplify (p .tree))) (stays p);
-  complicate = λ p. cond (p .grown) (grown-step (t .complicate (p .tree))) (stays p)
-  }
+  complicate = λ p. cond (p .grown) (grown-step (t .complicate (p .tree))) (stays p);
+}

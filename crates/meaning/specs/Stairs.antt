@@ -48,8 +48,8 @@ bare-stair = record {
   back = λ s. how-many (s .note);
   longest = λ s. 1;
   simplify = λ s. cond (ltb (s .floor) (s .value)) (one-down s) (stays s);
-  complicate = λ s. returned s (s .note)
-  }
+  complicate = λ s. returned s (s .note);
+}
 
 abbrev pub stair-steps : Steps (Place StairTree) ℕ
 stair-steps = placed bare-stair

@@ -37,8 +37,8 @@ slice-table t i = record {
   longest = λ xs. at (t .longest) 0 xs i;
   blank = λ xs. change-at (t .blank) xs i;
   simplify = λ xs. step-at (t .simplify) xs i;
-  complicate = λ xs. step-at (t .complicate) xs i
-  }
+  complicate = λ xs. step-at (t .complicate) xs i;
+}
 
 abbrev pub beside : {X S : Type 0} → S → Outcome X (List S) → Outcome X (List S)
 beside x o = record { answer = o .answer; runner = o .runner; place = x ∷ o .place }

@@ -128,8 +128,8 @@ bare-vector table = record {
   back = λ v. vec-back table v (v .prev-shrink);
   longest = λ v. v .longest;
   simplify = λ v. vec-simplify table v (v .shrink);
-  complicate = λ v. vec-complicate table v (v .prev-shrink)
-  }
+  complicate = λ v. vec-complicate table v (v .prev-shrink);
+}
 
 abbrev pub vec-steps : {T I : Type 0} → (ℕ → Steps T I) → Steps (Place (VecTree T)) I
 vec-steps table = placed (bare-vector table)
@@ -174,8 +174,8 @@ vec-short short stated high v = cond (short high (v .tree .elements)) true (ltb 
 
 abbrev pub vec-grows : {X T : Type 0} → Words X → (ℕ → Grows X T) → Bool → (low high longest : ℕ) → Grows X (Place (VecTree T))
 vec-grows w g short low high longest r v = cond short
-  (record { answer = Err too-few-slots; runner = r; place = v })
-  (vec-sized g low longest (v .tree) (advanced w r) (drawn low high (word w (r .source))))
+    (record { answer = Err too-few-slots; runner = r; place = v })
+    (vec-sized g low longest (v .tree) (advanced w r) (drawn low high (word w (r .source))))
 
 abbrev pub vec-growth : {T P Q : Type 0} → (under : Q → P) (low high : Q → ℕ) (stated : P → ℕ → ℕ) → (P → ℕ → T → Bool) → TableGrowth P T → Growth Q (Place (VecTree T))
 vec-growth under low high stated short g q X w r v = vec-grows w (g (under q) X w) (vec-short (short (under q)) (stated (under q)) (high q) v) (low q) (high q) (vec-stated (stated (under q)) (high q)) r v

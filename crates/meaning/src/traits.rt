@@ -10,7 +10,6 @@ ghost use Rattle.meaning.specs.Tables.{TableGrowth};
 ghost use Rattle.meaning.specs.TableLaws.{TableTotal, TableKeeps, TableRoots};
 ghost use Rattle.meaning.specs.Faults.{strategy-number};
 ghost use Rattle.meaning.specs.Readings.{counted, item-at, reading, read-into, read-number};
-
 use draws::faults::GrowFault;
 use draws::source::Source;
 use draws::test_runner::TestRunner;
@@ -140,7 +139,11 @@ pub trait Strategy: Sized {
         ensures { λ r. ⌜ r ≡ Tree·ValueTree .short (now (self .entry)) (Tree·ValueTree .state (now (place .entry))) ⌝ };
 
     // Grows a tree into `place`. Refused for too few slots, the place stays as it was; else it is then blank.
-    fn new_tree<D: Source>(&self, runner: &mut TestRunner<D>, place: &mut Self::Tree) -> Result<(), GrowFault>
+    fn new_tree<D: Source>(
+        &self,
+        runner: &mut TestRunner<D>,
+        place: &mut Self::Tree,
+    ) -> Result<(), GrowFault>
         ensures { λ r. ⌜ record { answer = r; runner = run (D·Source .state) (now (runner .exit)); place = Tree·ValueTree .state (now (place .exit)) } ≡ Tree·ValueTree .grows (now (self .entry)) (D·Source .State) (D·Source .words) (run (D·Source .state) (now (runner .entry))) (Tree·ValueTree .state (now (place .entry))) ⌝ };
 }
 
@@ -206,6 +209,11 @@ pub trait TableStrategy: Sized {
         ensures { λ r. ⌜ r ≡ Trees·Table .short (now (self .entry)) n (Trees·Table .state (now (table .entry))) ⌝ };
 
     // Grows tree number `i` in its place in the table.
-    fn grow_at<D: Source>(&self, i: usize, runner: &mut TestRunner<D>, table: &mut Self::Trees) -> Result<(), GrowFault>
+    fn grow_at<D: Source>(
+        &self,
+        i: usize,
+        runner: &mut TestRunner<D>,
+        table: &mut Self::Trees,
+    ) -> Result<(), GrowFault>
         ensures { λ r. ⌜ record { answer = r; runner = run (D·Source .state) (now (runner .exit)); place = Trees·Table .state (now (table .exit)) } ≡ Trees·Table .grows (now (self .entry)) (D·Source .State) (D·Source .words) i (run (D·Source .state) (now (runner .entry))) (Trees·Table .state (now (table .entry))) ⌝ };
 }

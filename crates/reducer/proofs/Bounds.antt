@@ -67,8 +67,8 @@ digits-if {most} false d = no-digits most
 digit-more : {most : ℕ} (xs ys : List ℕ) → Digits 1 xs → Digits most ys → Digits (suc most) (xs ++ ys)
 digit-more xs ys a b = record {
   few = simp length-append (omega arith);
-  each = all-append Digit xs ys (a .each) (b .each)
-  }
+  each = all-append Digit xs ys (a .each) (b .each);
+}
 
 -- each digit takes a space and itself
 length-spaced : (xs : List ℕ) → All Digit xs → length (each-joined spaced xs) ≡ 2 * length xs
@@ -79,8 +79,8 @@ length-spaced (x ∷ xs) h =
     simp length-append (omega (arith, one, rest))
 
 -- a letter, at most 64 digits and a line feed
-short-written : (word xs : List ℕ) → length word ≡ 1 → Digits most-slots xs → length (written word xs) ≤ 130
-short-written word xs one d =
+short-written : (letter xs : List ℕ) → length letter ≡ 1 → Digits most-slots xs → length (written letter xs) ≤ 130
+short-written letter xs one d =
     let few = d .few in
     let l = length-spaced xs (d .each) in
     simp length-append (omega (arith, one, few, l))
@@ -114,8 +114,8 @@ module _ {B : Type 0} {most : ℕ} {P : B → Type 0} (b : Bare B ℕ) (k : Boun
   bounded-placed = record {
     shows = λ p h. digits-if (p .grown) (k .shows (p .tree) h);
     simplifies = λ p h. step-placed (p .grown) (p .tree) (b .simplify (p .tree)) h (k .simplifies (p .tree) h);
-    complicates = λ p h. step-placed (p .grown) (p .tree) (b .complicate (p .tree)) h (k .complicates (p .tree) h)
-    }
+    complicates = λ p h. step-placed (p .grown) (p .tree) (b .complicate (p .tree)) h (k .complicates (p .tree) h);
+  }
 
 -- the stair
 
@@ -138,8 +138,8 @@ bounded-stair : BoundedSteps 1 LowSlot stair-steps
 bounded-stair = bounded-placed {P = Low} bare-stair (record {
   shows = λ s l. record { few = omega arith; each = (l .shown, tt) };
   simplifies = λ s l. low-down s (ltb (s .floor) (s .value)) l;
-  complicates = λ s l. low-returned s (s .note) l (l .home)
-  })
+  complicates = λ s l. low-returned s (s .note) l (l .home);
+})
 
 -- a tree of a slice: its steps keep what holds of every slot
 
@@ -158,8 +158,8 @@ module _ {S : Type 0} {most : ℕ} {P : S → Type 0} (t : Steps S ℕ) (k : Bou
   bounded-slot i = record {
     shows = λ xs h. shown-at xs i h;
     simplifies = λ xs h. all-changed (λ s. t .simplify s .tree) (k .simplifies) xs i h;
-    complicates = λ xs h. all-changed (λ s. t .complicate s .tree) (k .complicates) xs i h
-    }
+    complicates = λ xs h. all-changed (λ s. t .complicate s .tree) (k .complicates) xs i h;
+  }
 
 -- the vector, over a table whose trees show at most one digit each
 
@@ -206,8 +206,8 @@ module _ {T : Type 0} {Q : T → Type 0} (table : ℕ → Steps T ℕ) (k : (i :
   small-complicate v (Some (DeleteElement ix)) s = record { over = s .over; few = simp length-set (s .few) }
   small-complicate v (Some (ShrinkElement ix)) s = record {
     over = k ix .complicates (v .elements) (s .over);
-    few = s .few
-    }
+    few = s .few;
+  }
 
   small-shown : {most : ℕ} (v : VecTree T) → Small most Q v → Digits most (bare-vector table .candidate v)
   small-shown v s =
@@ -218,8 +218,8 @@ module _ {T : Type 0} {Q : T → Type 0} (table : ℕ → Steps T ℕ) (k : (i :
   bounded-vector most = bounded-placed {P = Small most Q} (bare-vector table) (record {
     shows = small-shown;
     simplifies = λ v s. small-simplify v (v .shrink) s;
-    complicates = λ v s. small-complicate v (v .prev-shrink) s
-    })
+    complicates = λ v s. small-complicate v (v .prev-shrink) s;
+  })
 
 -- growth
 
@@ -334,8 +334,8 @@ all-replicate P (suc n) x h = (h, all-replicate P n x h)
 small-bench : SmallVector bench
 small-bench = record {
   over = all-replicate LowSlot most-slots blank-stair (record { shown = omega arith; home = omega arith });
-  few = omega arith
-  }
+  few = omega arith;
+}
 
 -- the lines of any steps
 

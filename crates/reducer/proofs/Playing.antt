@@ -44,38 +44,38 @@ pub record Next {S : Type 0} (t : Steps S ℕ) (steps : List Step) (s0 : S) (out
 module _ {S : Type 0} {t : Steps S ℕ} {steps : List Step} {s0 : S} {out0 : List ℕ} {i at : ℕ} {s : S} {out : List ℕ} where
   pub play-next : Playing t steps s0 out0 i at s out → (d : Step) → i < length steps → Next t steps s0 out0 i at s out (getD steps i d)
   play-next p d h =
-    let e : drop i steps ≡ getD steps i d ∷ drop (i + 1) steps = rw (add-one i) (drop-cons steps i d h) in
-    record {
-    few = rw e at (p .few);
-    room = rw e at (p .room);
-    end = rw e at (p .end);
-    same = rw e at (p .same)
-    }
+      let e : drop i steps ≡ getD steps i d ∷ drop (i + 1) steps = rw (add-one i) (drop-cons steps i d h) in
+      record {
+        few = rw e at (p .few);
+        room = rw e at (p .room);
+        end = rw e at (p .end);
+        same = rw e at (p .same);
+      }
 
   pub next-room : {step : Step} → Next t steps s0 out0 i at s out step → at + length (line-bytes (turn t step s .says)) ≤ length out
   next-room {step} n =
-    let r = n .room in
-    let l = length-append (line-bytes (turn t step s .says)) (page (says t (drop (i + 1) steps) (turn t step s .leaves))) in
-    omega (arith, r, l)
+      let r = n .room in
+      let l = length-append (line-bytes (turn t step s .says)) (page (says t (drop (i + 1) steps) (turn t step s .leaves))) in
+      omega (arith, r, l)
 
   pub play-on : {step : Step} → Next t steps s0 out0 i at s out step → (at′ : ℕ) → at′ ≡ at + length (line-bytes (turn t step s .says)) → (s′ : S) → s′ ≡ turn t step s .leaves → (out′ : List ℕ) → out′ ≡ over-from at (line-bytes (turn t step s .says)) out → Playing t steps s0 out0 (i + 1) at′ s′ out′
   play-on {step} n at′ a s′ b out′ c =
-    let line = line-bytes (turn t step s .says) in
-    let rest = page (says t (drop (i + 1) steps) (turn t step s .leaves)) in
-    let l = length-append line rest in
-    let k = length-over-from at line out in
-    let r = n .room in
-    let e = n .end in
-    rw (a, b, c) (record {
-    few = n .few .1;
-    room = omega (arith, l, k, r);
-    end = omega (arith, l, e);
-    same = over-from-append at line rest out ∙ n .same
-    })
+      let line = line-bytes (turn t step s .says) in
+      let rest = page (says t (drop (i + 1) steps) (turn t step s .leaves)) in
+      let l = length-append line rest in
+      let k = length-over-from at line out in
+      let r = n .room in
+      let e = n .end in
+      rw (a, b, c) (record {
+        few = n .few .1;
+        room = omega (arith, l, k, r);
+        end = omega (arith, l, e);
+        same = over-from-append at line rest out ∙ n .same;
+      })
 
   pub play-end : Playing t steps s0 out0 i at s out → length steps ≤ i → (at ≡ length (page (says t steps s0))) × (out ≡ over (page (says t steps s0)) out0)
   play-end p h =
-    let none = drop-of-length-le steps h in
-    let e : at + length (page (says t [] s)) ≡ length (page (says t steps s0)) = rw none at (p .end) in
-    let q : over-from at (page (says t [] s)) out ≡ over (page (says t steps s0)) out0 = rw none at (p .same) in
-    (omega (arith, e), sym (over-from-none at out) ∙ q)
+      let none = drop-of-length-le steps h in
+      let e : at + length (page (says t [] s)) ≡ length (page (says t steps s0)) = rw none at (p .end) in
+      let q : over-from at (page (says t [] s)) out ≡ over (page (says t steps s0)) out0 = rw none at (p .same) in
+      (omega (arith, e), sym (over-from-none at out) ∙ q)

@@ -4,7 +4,6 @@ ghost use Rattle.buffers.specs.Over.{laid};
 ghost use Rattle.lines.specs.Lines.{ending};
 ghost use Rattle.reducer.specs.Hosts.{status, kept};
 ghost use Rattle.reducer.specs.Sessions.{session-bytes};
-
 use crate::session::run_plan;
 
 // For C: runs the session of a plan's text. Its lines go to the start of `out`, their length to `len`, and the answer is 0.

@@ -10,7 +10,6 @@ ghost use Rattle.plan.specs.Said.{said};
 ghost use Rattle.reducer.specs.Sessions.{most-slots, turn, says, Few, begun, session-number, refusal, session, lengths, written, session-bytes, longest-page};
 ghost use Rattle.reducer.specs.declared.session.SessionFault.the-variants.{Plan as plan-fault, Size as size-fault, Strategy as strategy-fault, Growth as growth-fault};
 ghost use Rattle.reducer.specs.States.{vector-state};
-
 use draws::faults::GrowFault;
 use draws::source::Tape;
 use draws::source::TapeSource;
@@ -53,10 +52,10 @@ impl SessionFault {
         ensures { λ r. ⌜ r ≡ session-number self ⌝ }
     {
         match self {
-            SessionFault::Plan(fault) => fault.number(),
-            SessionFault::Size(fault) => fault.number(),
-            SessionFault::Strategy(fault) => fault.number(),
-            SessionFault::Growth(fault) => fault.number(),
+            Self::Plan(fault) => fault.number(),
+            Self::Size(fault) => fault.number(),
+            Self::Strategy(fault) => fault.number(),
+            Self::Growth(fault) => fault.number(),
         }
     }
 
@@ -66,8 +65,8 @@ impl SessionFault {
         ensures short { λ r. ⌜ length (line-bytes (line-said r)) ≤ 64 ⌝ }
     {
         match self {
-            SessionFault::Plan(fault) => Line::RefusedAt(fault.number(), u32::from(fault.line())),
-            SessionFault::Size(_) | SessionFault::Strategy(_) | SessionFault::Growth(_) => Line::Refused(self.number()),
+            Self::Plan(fault) => Line::RefusedAt(fault.number(), u32::from(fault.line())),
+            Self::Size(_) | Self::Strategy(_) | Self::Growth(_) => Line::Refused(self.number()),
         }
     }
 }
@@ -105,7 +104,10 @@ pub impl From<GrowFault> for SessionFault as SessionFromGrowth {
 }
 
 // Grows the plan's vector: from low to high stairs with the limit 9, from a tape over the draws.
-fn begin<'a>(plan: &Plan, place: &mut VecValueTree<SliceTable<'a, Stair>>) -> Result<(), SessionFault>
+fn begin<'a>(
+    plan: &Plan,
+    place: &mut VecValueTree<SliceTable<'a, Stair>>,
+) -> Result<(), SessionFault>
     ensures { λ r. ⌜ record { answer = r; leaves = vector-state (now (place .exit)) } ≡ begun (said (now (plan .entry))) (vector-state (now (place .entry))) ⌝ }
 {
     let size = SizeRange::new(plan.low(), plan.high())?;
@@ -181,7 +183,7 @@ fn run(text: &[u8], page: &mut [u8]) -> Result<usize, SessionFault>
     ensures within { λ r. ⌜ made r (λ n. n ≤ length (now (page .entry))) ⌝ }
 {
     if text.len() > 8192 {
-        return Err(SessionFault::Plan(PlanFault::too_long()));
+        return Err(PlanFault::too_long().into());
     }
     let plan = read_plan(text)?;
     let mut slots = [Stair::place(); 64];
@@ -208,6 +210,7 @@ fn write_page(text: &[u8], page: &mut [u8]) -> usize
 pub fn run_plan(text: &[u8], out: &mut [u8]) -> Result<usize, LineFault>
     ensures answer { λ r. ⌜ r ≡ ending (length (session-bytes (now (text .entry)))) (now (out .entry)) ⌝ }
     ensures buffer { λ _. ⌜ now (out .exit) ≡ laid (session-bytes (now (text .entry))) (now (out .entry)) ⌝ }
+    ensures within { λ r. ⌜ made r (λ n. n ≤ length (now (out .entry))) ⌝ }
 {
     let mut page = [0u8; 133120];
     let n = write_page(text, &mut page);

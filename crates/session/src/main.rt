@@ -1,5 +1,8 @@
 // Reads a plan from standard input, runs its session, and prints the session's lines.
 
+ghost use Prim.Native.Nat.{_≤_};
+ghost use lib.ListN.{length};
+ghost use Rattle.std.specs.Vec.{made};
 use lines::LineFault;
 use reducer::session::run_plan;
 use std::error::AnyError;
@@ -12,8 +15,10 @@ const LONGEST_TEXT: usize = 8192;
 // The most that a session writes.
 const LONGEST_PAGE: usize = 133120;
 
-// Fills `buf` from standard input as far as that goes.
-fn read_text(rt: &LibcRuntime, buf: &mut [u8]) -> Result<usize, AnyError> {
+// Fills `buf` from standard input as far as that goes, and says how many bytes there were.
+fn read_text(rt: &LibcRuntime, buf: &mut [u8]) -> Result<usize, AnyError>
+    ensures { λ r. ⌜ made r (λ n. n ≤ length (now (buf .entry))) ⌝ }
+{
     let mut stdin = rt.stdin();
     let mut n: usize = 0;
     while n < buf.len() {

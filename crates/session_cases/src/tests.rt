@@ -55,7 +55,10 @@ fn steps() -> Result<(), Fail> {
         b"v 3 1\ns 1\nv 2 1\ns 1\nv 1 1\nc 1\nv 2 1\nc 0\nv 2 1\ns 1\nv 2 0\ns 0\nv 2 0\n",
     )?;
     // the largest draw
-    says(b"low=1\nhigh=1\ndraws=0 18446744073709551615\nsteps=v\n", b"v 5\n")
+    says(
+        b"low=1\nhigh=1\ndraws=0 18446744073709551615\nsteps=v\n",
+        b"v 5\n",
+    )
 }
 
 #[test]

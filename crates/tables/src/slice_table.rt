@@ -9,7 +9,6 @@ ghost use Rattle.meaning.specs.Readings.{counted, item-at};
 ghost use Rattle.meaning.specs.TableLaws.{Slot};
 ghost use Rattle.meaning.proofs.SliceLaws.{slice-total, slice-keeps, slice-roots};
 ghost use Rattle.meaning.specs.Tables.{at, step-at, slice-table, grow-at, lacking, slice-growth, slice-short, slice-stated};
-
 use draws::faults::GrowFault;
 use draws::source::Source;
 use draws::test_runner::TestRunner;
@@ -43,14 +42,22 @@ fn len_at<T: ValueTree>(slots: &[T], i: usize) -> usize
 fn item_at<T: ValueTree>(slots: &[T], i: usize, k: usize) -> Option<T::Item>
     ensures { λ r. ⌜ r ≡ item-at (at (T·ValueTree .steps .candidate) [] (map (T·ValueTree .state) (now (slots .entry))) i) k ⌝ }
 {
-    if i < slots.len() { slots[i].item(k) } else { None }
+    if i < slots.len() {
+        slots[i].item(k)
+    } else {
+        None
+    }
 }
 
 fn copy_at<T: ValueTree>(slots: &[T], i: usize, buf: &mut [T::Item]) -> usize
     ensures count { λ r. ⌜ r ≡ min (length (at (T·ValueTree .steps .candidate) [] (map (T·ValueTree .state) (now (slots .entry))) i)) (length (now (buf .entry))) ⌝ }
     ensures buffer { λ _. ⌜ now (buf .exit) ≡ over (at (T·ValueTree .steps .candidate) [] (map (T·ValueTree .state) (now (slots .entry))) i) (now (buf .entry)) ⌝ }
 {
-    if i < slots.len() { slots[i].copy_to(buf) } else { 0 }
+    if i < slots.len() {
+        slots[i].copy_to(buf)
+    } else {
+        0
+    }
 }
 
 fn simplify_at<T: ValueTree + Copy>(slots: &mut [T], i: usize) -> bool
@@ -91,7 +98,12 @@ fn lacks_at<S: Strategy>(element: &S, n: usize, slots: &[S::Tree]) -> bool
     false
 }
 
-fn grow_at<S: Strategy, D: Source>(element: &S, i: usize, runner: &mut TestRunner<D>, slots: &mut [S::Tree]) -> Result<(), GrowFault>
+fn grow_at<S: Strategy, D: Source>(
+    element: &S,
+    i: usize,
+    runner: &mut TestRunner<D>,
+    slots: &mut [S::Tree],
+) -> Result<(), GrowFault>
     ensures { λ r. ⌜ record { answer = r; runner = run (D·Source .state) (now (runner .exit)); place = map (Tree·ValueTree .state) (now (slots .exit)) } ≡ grow-at (Tree·ValueTree .grows (now (element .entry)) (D·Source .State) (D·Source .words)) i (run (D·Source .state) (now (runner .entry))) (map (Tree·ValueTree .state) (now (slots .entry))) ⌝ }
 {
     if i >= slots.len() {
@@ -157,7 +169,10 @@ impl<'a, S> SliceStrategy<'a, S> {
     pub fn new(element: S) -> SliceStrategy<'a, S>
         ensures { λ r. ⌜ r .element ≡ element ⌝ }
     {
-        SliceStrategy { element, slots: PhantomData }
+        SliceStrategy {
+            element,
+            slots: PhantomData,
+        }
     }
 }
 
@@ -175,7 +190,12 @@ where
         lacks_at(&self.element, n, table.slots)
     }
 
-    fn grow_at<D: Source>(&self, i: usize, runner: &mut TestRunner<D>, table: &mut SliceTable<'a, S::Tree>) -> Result<(), GrowFault> {
+    fn grow_at<D: Source>(
+        &self,
+        i: usize,
+        runner: &mut TestRunner<D>,
+        table: &mut SliceTable<'a, S::Tree>,
+    ) -> Result<(), GrowFault> {
         grow_at(&self.element, i, runner, table.slots)
     }
 }

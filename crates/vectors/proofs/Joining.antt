@@ -98,8 +98,8 @@ seek-on {f = f} {inc = inc} {i = i} {r = r} s h e p n q =
     let few = gone .0 in
     let exact : n ≡ length (f i) = omega (arith, q, few, l) in
     record {
-    enough = omega (arith, exact, few);
-    next = record { small = omega (arith, l); same = ap (λ (m : ℕ). item-at (joined-from f inc (i + 1)) (r - m)) exact ∙ sym (gone .1) ∙ ap (λ (xs : List _). item-at xs r) (sym (joined-here f inc i h e)) ∙ s .same }
+      enough = omega (arith, exact, few);
+      next = record { small = omega (arith, l); same = ap (λ (m : ℕ). item-at (joined-from f inc (i + 1)) (r - m)) exact ∙ sym (gone .1) ∙ ap (λ (xs : List _). item-at xs r) (sym (joined-here f inc i h e)) ∙ s .same };
     }
 
 pub seek-end : {I : Type 0} {f : ℕ → List I} {inc : List Bool} {k i r : ℕ} → Seeking f inc k i r → length inc ≤ i → None ≡ item-at (joined f 0 inc) k
@@ -144,36 +144,36 @@ module _ {I : Type 0} {f : ℕ → List I} {inc : List Bool} {b0 : List I} {i n 
     within = c .within;
     size = c .size;
     count = ap (λ (xs : List I). min (n + length xs) (length b0)) (sym q) ∙ c .count;
-    same = ap (λ (xs : List I). take n b ++ over xs (drop n b)) (sym q) ∙ c .same
-    }
+    same = ap (λ (xs : List I). take n b ++ over xs (drop n b)) (sym q) ∙ c .same;
+  }
 
   -- the element's items went behind the n: m of them, into the rest of the buffer
   pub copy-here : i < length inc → getD inc i false ≡ true → (m : ℕ) → m ≡ min (length (f i)) (length (drop n b)) → (b′ : List I) → b′ ≡ take n b ++ over (f i) (drop n b) → Copying f inc b0 (i + 1) (n + m) b′
   copy-here h e m p b′ q =
-    let front = length-take-le n b (c .within) in
-    let part = over (f i) (drop n b) in
-    let rest = joined-from f inc (i + 1) in
-    let whole = joined-here f inc i h e in
-    let lw = length-over (f i) (drop n b) in
-    let ld = length-drop n b in
-    let lb = ap length q ∙ length-append (take n b) part in
-    let lj = ap length whole ∙ length-append (f i) rest in
-    let cw = c .within in let cs = c .size in let cc′ = c .count in
-    record {
-    within = omega (arith, front, lw, ld, lb, p, cw);
-    size = omega (arith, front, lw, ld, lb, cs, cw);
-    count = omega (arith, lj, cc′, p, ld, cs, cw);
-    same =
-      ap (λ (x : List I). take (n + m) x ++ over rest (drop (n + m) x)) q
-      ∙ ap (λ (x : List I). x ++ over rest (drop (n + m) (take n b ++ part))) (take-after (take n b) part n m front)
-      ∙ ap (λ (x : List I). (take n b ++ take m part) ++ over rest x) (drop-after (take n b) part n m front)
-      ∙ append-assoc (take n b) (take m part) (over rest (drop m part))
-      ∙ ap (λ (x : List I). take n b ++ x) (over-append-within (f i) rest (drop n b) m p)
-      ∙ ap (λ (x : List I). take n b ++ over x (drop n b)) (sym whole)
-      ∙ c .same
-    }
+      let front = length-take-le n b (c .within) in
+      let part = over (f i) (drop n b) in
+      let rest = joined-from f inc (i + 1) in
+      let whole = joined-here f inc i h e in
+      let lw = length-over (f i) (drop n b) in
+      let ld = length-drop n b in
+      let lb = ap length q ∙ length-append (take n b) part in
+      let lj = ap length whole ∙ length-append (f i) rest in
+      let cw = c .within in let cs = c .size in let cc′ = c .count in
+      record {
+        within = omega (arith, front, lw, ld, lb, p, cw);
+        size = omega (arith, front, lw, ld, lb, cs, cw);
+        count = omega (arith, lj, cc′, p, ld, cs, cw);
+        same =
+            ap (λ (x : List I). take (n + m) x ++ over rest (drop (n + m) x)) q
+            ∙ ap (λ (x : List I). x ++ over rest (drop (n + m) (take n b ++ part))) (take-after (take n b) part n m front)
+            ∙ ap (λ (x : List I). (take n b ++ take m part) ++ over rest x) (drop-after (take n b) part n m front)
+            ∙ append-assoc (take n b) (take m part) (over rest (drop m part))
+            ∙ ap (λ (x : List I). take n b ++ x) (over-append-within (f i) rest (drop n b) m p)
+            ∙ ap (λ (x : List I). take n b ++ over x (drop n b)) (sym whole)
+            ∙ c .same;
+      }
 
   pub copy-end : length inc ≤ i → (n ≡ min (length (joined f 0 inc)) (length b0)) × (b ≡ over (joined f 0 inc) b0)
   copy-end h = let z = joined-end f inc i h in
-    let k = c .count in let w = c .within in let s = c .size in let l = ap length z in
-    (omega (arith, k, w, s, l), sym (take-append-drop n b) ∙ ap (λ (xs : List I). take n b ++ over xs (drop n b)) (sym z) ∙ c .same)
+      let k = c .count in let w = c .within in let s = c .size in let l = ap length z in
+      (omega (arith, k, w, s, l), sym (take-append-drop n b) ∙ ap (λ (xs : List I). take n b ++ over xs (drop n b)) (sym z) ∙ c .same)

@@ -14,7 +14,6 @@ ghost use Rattle.meaning.specs.VectorLaws.{vec-sound};
 ghost use Rattle.meaning.proofs.VectorSteps.{vec-total, vec-keeps};
 ghost use Rattle.meaning.proofs.VectorGrowth.{vec-roots};
 ghost use Rattle.vectors.specs.Members.{bits-of, vec-state};
-
 use crate::included::Included;
 use draws::faults::GrowFault;
 use draws::faults::GrowFromDraw;
@@ -118,7 +117,12 @@ fn walk_in<B: Table>(elements: &mut B, included: &Included, from: usize) -> (usi
 }
 
 // Grows the first `size` elements, in order.
-fn grow_in<G: TableStrategy, D: Source>(strategy: &G, runner: &mut TestRunner<D>, elements: &mut G::Trees, size: usize) -> Result<(), GrowFault>
+fn grow_in<G: TableStrategy, D: Source>(
+    strategy: &G,
+    runner: &mut TestRunner<D>,
+    elements: &mut G::Trees,
+    size: usize,
+) -> Result<(), GrowFault>
     ensures { λ r. ⌜ record { answer = r; runner = run (D·Source .state) (now (runner .exit)); place = Trees·Table .state (now (elements .exit)) } ≡ grow-from (Trees·Table .grows (now (strategy .entry)) (D·Source .State) (D·Source .words)) size 0 (run (D·Source .state) (now (runner .entry))) (Trees·Table .state (now (elements .entry))) ⌝ }
 {
     for i in 0..size {
@@ -163,15 +167,27 @@ pub impl<B: Table> ValueTree for VecValueTree<B> as VecValueTreeTree {
     }
 
     fn len(&self) -> usize {
-        if self.grown { len_in(&self.elements, &self.included_elements) } else { 0 }
+        if self.grown {
+            len_in(&self.elements, &self.included_elements)
+        } else {
+            0
+        }
     }
 
     fn item(&self, i: usize) -> Option<B::Item> {
-        if self.grown { item_in(&self.elements, &self.included_elements, i) } else { None }
+        if self.grown {
+            item_in(&self.elements, &self.included_elements, i)
+        } else {
+            None
+        }
     }
 
     fn copy_to(&self, buf: &mut [B::Item]) -> usize {
-        if self.grown { copy_in(&self.elements, &self.included_elements, buf) } else { 0 }
+        if self.grown {
+            copy_in(&self.elements, &self.included_elements, buf)
+        } else {
+            0
+        }
     }
 
     fn blank(&mut self) {
@@ -184,7 +200,9 @@ pub impl<B: Table> ValueTree for VecValueTree<B> as VecValueTreeTree {
         }
         let from = match self.shrink {
             Shrink::DeleteElement(ix) => {
-                if ix < self.included_elements.len() && self.included_elements.count() != self.min_size {
+                if ix < self.included_elements.len()
+                    && self.included_elements.count() != self.min_size
+                {
                     self.included_elements.clear(ix);
                     self.prev_shrink = Some(self.shrink);
                     self.shrink = Shrink::DeleteElement(ix + 1);
@@ -247,7 +265,10 @@ impl<G: TableStrategy + Drop> VecStrategy<G> {
 }
 
 // Vectors over a slice: a strategy for all its trees, and how many of them there are to be.
-pub fn vec<'a, S: Strategy + Drop>(element: S, size: SizeRange) -> Result<VecStrategy<SliceStrategy<'a, S>>, StrategyFault>
+pub fn vec<'a, S: Strategy + Drop>(
+    element: S,
+    size: SizeRange,
+) -> Result<VecStrategy<SliceStrategy<'a, S>>, StrategyFault>
 where
     S::Tree: Copy + 'a,
     ensures { λ r. ⌜ Cases r (λ s. (vec-making (size .high) (size .high * Tree·ValueTree .stated element) ≡ Ok tt) × (s .elements .element ≡ element) × (s .size ≡ size)) (λ fault. vec-making (size .high) (size .high * Tree·ValueTree .stated element) ≡ Err fault) ⌝ }
@@ -267,7 +288,11 @@ pub impl<G: TableStrategy> Strategy for VecStrategy<G> as VecStrategyStrategy {
         self.elements.lacks_slots(high, &place.elements) || self.elements.longest(high) > 4096
     }
 
-    fn new_tree<D: Source>(&self, runner: &mut TestRunner<D>, place: &mut VecValueTree<G::Trees>) -> Result<(), GrowFault> {
+    fn new_tree<D: Source>(
+        &self,
+        runner: &mut TestRunner<D>,
+        place: &mut VecValueTree<G::Trees>,
+    ) -> Result<(), GrowFault> {
         if self.lacks_slots(place) {
             return Err(GrowFault::too_few_slots());
         }

@@ -17,7 +17,10 @@ impl Included {
     pub fn saturated(len: usize) -> Included
         ensures { λ r. ⌜ bits-of r ≡ all-of (min len 256) ⌝ }
     {
-        Included { bits: [true; 256], len }
+        Included {
+            bits: [true; 256],
+            len,
+        }
     }
 
     // How many elements there are, members or not.
@@ -31,7 +34,11 @@ impl Included {
     pub fn test(&self, i: usize) -> bool
         ensures { λ r. ⌜ r ≡ getD (bits-of (now (self .entry))) i false ⌝ }
     {
-        if i < self.len { bit(&self.bits, i) } else { false }
+        if i < self.len {
+            bit(&self.bits, i)
+        } else {
+            false
+        }
     }
 
     pub fn clear(&mut self, i: usize)

@@ -20,7 +20,7 @@ pub returns-in-View : need.returns-in-View
 returns-in-View g c =
     let e = copied (g .T·ValueTree .steps .candidate (g .T·ValueTree .state (c .args .tree .now))) (replicate 64 0) (c .copy-to-n .last .buf) (c .copy-to-n .result) (c .pre .0) (c .copy-to-n .ensures .count) (c .copy-to-n .ensures .buffer) in
     rw (c .in-View .is) (record {
-    tree = refl;
-    end = c .put .ensures .end ∙ ap (λ (xs : List ℕ). c .args .at + length (line-bytes (view xs))) e;
-    buffer = c .put .ensures .buffer ∙ ap (λ (xs : List ℕ). over-from (c .args .at) (line-bytes (view xs)) (c .args .page .now)) e
+      tree = refl;
+      end = c .put .ensures .end ∙ ap (λ (xs : List ℕ). c .args .at + length (line-bytes (view xs))) e;
+      buffer = c .put .ensures .buffer ∙ ap (λ (xs : List ℕ). over-from (c .args .at) (line-bytes (view xs)) (c .args .page .now)) e;
     })

@@ -39,7 +39,7 @@ returns c =
     let room = roomy (c .args .text .now) plan (vector-state (c .begin .last .place)) (c .args .page .now) (c .in-Continue-plan .ensures tt .faithful) (ap (λ (x : Begun). x .leaves) (b ∙ ap (λ (v : Vector). begun plan v) blank)) (c .pre) .1 in
     let end = c .play .ensures .end ∙ ap (λ (steps : List Step). length (page (says vector steps (vector-state (c .begin .last .place))))) (c .steps .ensures) in
     record {
-    answer = ap (λ (n : ℕ). Ok n) end ∙ e .answer;
-    buffer = c .play .ensures .buffer ∙ ap (λ (steps : List Step). over (page (says vector steps (vector-state (c .begin .last .place)))) (c .args .page .now)) (c .steps .ensures) ∙ e .buffer;
-    within = omega (arith, room, end)
+      answer = ap (λ (n : ℕ). Ok n) end ∙ e .answer;
+      buffer = c .play .ensures .buffer ∙ ap (λ (steps : List Step). over (page (says vector steps (vector-state (c .begin .last .place)))) (c .args .page .now)) (c .steps .ensures) ∙ e .buffer;
+      within = omega (arith, room, end);
     }

@@ -25,7 +25,7 @@ returns-in-Err c =
     let short = c .line .ensures .short in
     let room = c .pre in
     record {
-    end = omega (arith, end, long);
-    buffer = c .put .ensures .buffer ∙ ap (λ (xs : List ℕ). over xs (c .run .last .page)) bytes ∙ ap (λ (out : List ℕ). over (session-bytes (c .args .text .now)) out) (t .0);
-    within = omega (arith, end, short, room)
+      end = omega (arith, end, long);
+      buffer = c .put .ensures .buffer ∙ ap (λ (xs : List ℕ). over xs (c .run .last .page)) bytes ∙ ap (λ (out : List ℕ). over (session-bytes (c .args .text .now)) out) (t .0);
+      within = omega (arith, end, short, room);
     }

@@ -12,8 +12,8 @@ loop-i-again g c =
     let n = c .len-i-end .ensures .value in
     let h = c .loop-i-test .taken in
     elim (c .if-test .came) [
-      then-test w ↦ rw (w .n-is, w .buf-is) (copy-here (c .loop-i .inv) (omega (arith, n, h)) (sym (w .if-test .ensures tt)) _ (w .copy-at-n .ensures .count ∙ ap (λ (zs : List _). min (length (g .B·Table .rows (c .loop-i .i) .candidate (g .B·Table .state (c .args .elements .now)))) (length zs)) (rest-lent (c .loop-i .n) (c .loop-i .buf))) _ (rest-written (c .loop-i .n) (c .loop-i .buf) _ _ (w .copy-at-n .ensures .buffer)))
-    | else-test w ↦ rw (w .n-is, w .buf-is) (copy-skip (c .loop-i .inv) (omega (arith, n, h)) (sym (w .if-test .ensures tt)))
+      | then-test w ↦ rw (w .n-is, w .buf-is) (copy-here (c .loop-i .inv) (omega (arith, n, h)) (sym (w .if-test .ensures tt)) _ (w .copy-at-n .ensures .count ∙ ap (λ (zs : List _). min (length (g .B·Table .rows (c .loop-i .i) .candidate (g .B·Table .state (c .args .elements .now)))) (length zs)) (rest-lent (c .loop-i .n) (c .loop-i .buf))) _ (rest-written (c .loop-i .n) (c .loop-i .buf) _ _ (w .copy-at-n .ensures .buffer)))
+      | else-test w ↦ rw (w .n-is, w .buf-is) (copy-skip (c .loop-i .inv) (omega (arith, n, h)) (sym (w .if-test .ensures tt)))
     ]
 
 pub returns : need.returns

@@ -24,8 +24,8 @@ loop-i-again g c =
     let n = c .len-i-end .ensures .value in
     let h = c .loop-i-test .taken in
     elim (c .if-test .came) [
-      then-test·in-rest w ↦ rw (w .rest-is) (seek-on (c .loop-i .inv) (omega (arith, n, h)) (sym (w .if-test .ensures tt)) (w .in-rest .ensures tt) _ (w .len-at-rest .ensures) .next)
-    | else-test w ↦ rw (w .rest-is) (seek-skip (c .loop-i .inv) (omega (arith, n, h)) (sym (w .if-test .ensures tt)))
+      | then-test·in-rest w ↦ rw (w .rest-is) (seek-on (c .loop-i .inv) (omega (arith, n, h)) (sym (w .if-test .ensures tt)) (w .in-rest .ensures tt) _ (w .len-at-rest .ensures) .next)
+      | else-test w ↦ rw (w .rest-is) (seek-skip (c .loop-i .inv) (omega (arith, n, h)) (sym (w .if-test .ensures tt)))
     ]
 
 pub returns : need.returns

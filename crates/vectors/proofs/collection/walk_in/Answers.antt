@@ -15,8 +15,8 @@ loop-ix-again g c =
     let n = c .len .ensures .value in
     let h = c .loop-ix-test .taken in
     elim (c .if-test .came) [
-      then-test·else-simplify-at w ↦ rw (w .elements-is) (walk-on (c .loop-ix .inv) (omega (arith, n, h)) (sym (w .if-test .ensures tt)) _ (w .if-simplify-at .ensures tt))
-    | else-test w ↦ rw (w .elements-is) (walk-skip (c .loop-ix .inv) (omega (arith, n, h)) (sym (w .if-test .ensures tt)))
+      | then-test·else-simplify-at w ↦ rw (w .elements-is) (walk-on (c .loop-ix .inv) (omega (arith, n, h)) (sym (w .if-test .ensures tt)) _ (w .if-simplify-at .ensures tt))
+      | else-test w ↦ rw (w .elements-is) (walk-skip (c .loop-ix .inv) (omega (arith, n, h)) (sym (w .if-test .ensures tt)))
     ]
 
 pub returns : need.returns

@@ -9,8 +9,8 @@ loop-i-again c =
     let h = c .loop-i-test .taken in
     let l = c .shorter-i-end .ensures .value in
     elim (c .if-bits-i .came) [
-      then-bits-i w ↦ let q = count-on (c .args .bits .now) (c .args .len) (c .loop-i .i) (c .loop-i .n) _ true (omega (arith, h, l)) (w .if-bits-i .taken) (c .loop-i .inv .1) in (omega (arith, w .n-is), omega (arith, w .n-is, q))
-    | else-bits-i w ↦ let q = count-on (c .args .bits .now) (c .args .len) (c .loop-i .i) (c .loop-i .n) _ false (omega (arith, h, l)) (w .if-bits-i .left) (c .loop-i .inv .1) in (omega (arith, w .n-is), omega (arith, w .n-is, q))
+      | then-bits-i w ↦ let q = count-on (c .args .bits .now) (c .args .len) (c .loop-i .i) (c .loop-i .n) _ true (omega (arith, h, l)) (w .if-bits-i .taken) (c .loop-i .inv .1) in (omega (arith, w .n-is), omega (arith, w .n-is, q))
+      | else-bits-i w ↦ let q = count-on (c .args .bits .now) (c .args .len) (c .loop-i .i) (c .loop-i .n) _ false (omega (arith, h, l)) (w .if-bits-i .left) (c .loop-i .inv .1) in (omega (arith, w .n-is), omega (arith, w .n-is, q))
     ]
 
 pub returns : need.returns
