@@ -6,3 +6,4 @@ pub mod SliceLaws
 pub mod VectorSteps
 pub mod VectorGrowth
 pub mod SliceVector
+mod Examples

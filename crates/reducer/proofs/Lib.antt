@@ -2,3 +2,4 @@ mod Beginning
 mod Playing
 mod Bounds
 mod Running
+mod Examples
