@@ -2,6 +2,7 @@ ghost use mathlib.Core.Path.{_≡_};
 ghost use mathlib.Core.Bool.{false};
 ghost use Rattle.std.specs.declared.option.Option.the-variants.{None};
 ghost use Rattle.meaning.specs.Places.{Place};
+ghost use Rattle.meaning.specs.Piles.Pile.{leaf};
 ghost use Rattle.meaning.specs.Stairs.{StairTree, stair-steps, stair-growth};
 ghost use Rattle.meaning.specs.StairLaws.{stair-total, stair-keeps, stair-roots};
 use draws::faults::GrowFault;
@@ -51,13 +52,7 @@ pub impl ValueTree for Stair as StairValueTree {
 
     ghost stated = { λ p. 1 };
 
-    ghost sound = { λ s. Unit {0} };
-
-    ghost total = { stair-total };
-
-    ghost keeps = { stair-keeps };
-
-    ghost roots = { stair-roots (λ p. p .limit) };
+    ghost pile = { leaf stair-steps (λ p s. false) (stair-growth (λ p. p .limit)) (λ p. 1) (λ s. Unit {0}) stair-total stair-keeps (stair-roots (λ p. p .limit)) };
 
     fn is_grown(&self) -> bool {
         self.grown

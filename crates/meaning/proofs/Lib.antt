@@ -7,3 +7,5 @@ pub mod VectorSteps
 pub mod VectorGrowth
 pub mod SliceVector
 mod Examples
+pub mod Promising
+pub mod Piling

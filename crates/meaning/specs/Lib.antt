@@ -12,3 +12,6 @@ pub mod Tables
 pub mod TableLaws
 pub mod Vectors
 pub mod VectorLaws
+pub mod Reductions
+pub mod Runs
+pub mod Piles

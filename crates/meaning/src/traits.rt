@@ -4,10 +4,10 @@ ghost use Prim.Native.Nat.{ℕ, min};
 ghost use lib.ListN.{length};
 ghost use Rattle.buffers.specs.Over.{over};
 ghost use Rattle.draws.specs.Runners.{run};
-ghost use Rattle.meaning.specs.Trees.{Steps, Total, Keeps};
-ghost use Rattle.meaning.specs.Growths.{Growth, Roots};
+ghost use Rattle.meaning.specs.Trees.{Steps};
+ghost use Rattle.meaning.specs.Growths.{Growth};
 ghost use Rattle.meaning.specs.Tables.{TableGrowth};
-ghost use Rattle.meaning.specs.TableLaws.{TableTotal, TableKeeps, TableRoots};
+ghost use Rattle.meaning.specs.Piles.{Pile, TablePile};
 ghost use Rattle.meaning.specs.Faults.{strategy-number};
 ghost use Rattle.meaning.specs.Readings.{counted, item-at, reading, read-into, read-number};
 use draws::faults::GrowFault;
@@ -73,14 +73,8 @@ pub trait ValueTree {
 
     ghost stated: { Self·Grower → ℕ };
 
-    // The laws of its meaning: at every state, at the sound ones, and from growth.
-    ghost sound: { State → Type 0 };
-
-    ghost total: { Total steps };
-
-    ghost keeps: { Keeps steps sound };
-
-    ghost roots: { Roots steps sound short grows stated };
+    // Which pile it is: a leaf with the laws that it keeps, or a combinator over piles.
+    ghost pile: { Pile State Self·Item Self·Grower steps short grows stated };
 
     fn is_grown(&self) -> bool
         ensures { λ r. ⌜ r ≡ steps .grown (state (now (self .entry))) ⌝ };
@@ -167,14 +161,8 @@ pub trait Table {
 
     ghost stated: { Self·Grower → ℕ → ℕ };
 
-    // The laws of its trees, by their numbers: at every state, at the sound ones, and from growth.
-    ghost sound: { ℕ → State → Type 0 };
-
-    ghost total: { TableTotal rows };
-
-    ghost keeps: { TableKeeps rows sound };
-
-    ghost roots: { TableRoots rows sound short grows stated };
+    // Which table of piles it is.
+    ghost pile: { TablePile State Self·Item Self·Grower rows short grows stated };
 
     // How many items tree number `i` shows.
     fn len_at(&self, i: usize) -> usize

@@ -6,8 +6,7 @@ ghost use denote.Ref.{now as held};
 ghost use Rattle.draws.specs.Runners.{run};
 ghost use Rattle.buffers.specs.Over.{over};
 ghost use Rattle.meaning.specs.Readings.{counted, item-at};
-ghost use Rattle.meaning.specs.TableLaws.{Slot};
-ghost use Rattle.meaning.proofs.SliceLaws.{slice-total, slice-keeps, slice-roots};
+ghost use Rattle.meaning.specs.Piles.TablePile.{slice};
 ghost use Rattle.meaning.specs.Tables.{at, step-at, slice-table, grow-at, lacking, slice-growth, slice-short, slice-stated};
 use draws::faults::GrowFault;
 use draws::source::Source;
@@ -129,13 +128,7 @@ pub impl<'a, T: ValueTree + Copy> Table for SliceTable<'a, T> as SliceTableTable
 
     ghost stated = { slice-stated (λ p. p .element) (T·ValueTree .stated) };
 
-    ghost sound = { Slot (T·ValueTree .sound) };
-
-    ghost total = { slice-total (T·ValueTree .total) };
-
-    ghost keeps = { slice-keeps (T·ValueTree .keeps) };
-
-    ghost roots = { slice-roots (λ p. p .element) (T·ValueTree .roots) };
+    ghost pile = { slice (T·ValueTree .steps) (T·ValueTree .short) (T·ValueTree .grows) (T·ValueTree .stated) _ (λ p. p .element) (T·ValueTree .pile) };
 
     fn len_at(&self, i: usize) -> usize {
         len_at(self.slots, i)

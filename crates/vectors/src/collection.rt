@@ -10,9 +10,7 @@ ghost use Rattle.meaning.specs.Places.{Place};
 ghost use Rattle.buffers.specs.Over.{over};
 ghost use Rattle.meaning.specs.Readings.{counted, item-at};
 ghost use Rattle.meaning.specs.Vectors.{VecTree, vec-blank, joined, Walked, walk, vec-steps, grow-from, vec-making, vec-short, vec-stated, vec-growth};
-ghost use Rattle.meaning.specs.VectorLaws.{vec-sound};
-ghost use Rattle.meaning.proofs.VectorSteps.{vec-total, vec-keeps};
-ghost use Rattle.meaning.proofs.VectorGrowth.{vec-roots};
+ghost use Rattle.meaning.specs.Piles.Pile.{vec as vec-pile};
 ghost use Rattle.vectors.specs.Members.{bits-of, vec-state};
 use crate::included::Included;
 use draws::faults::GrowFault;
@@ -150,13 +148,7 @@ pub impl<B: Table> ValueTree for VecValueTree<B> as VecValueTreeTree {
 
     ghost stated = { λ p. vec-stated (B·Table .stated (p .elements)) (p .size .high) };
 
-    ghost sound = { vec-sound (B·Table .rows) (B·Table .sound) };
-
-    ghost total = { vec-total (B·Table .total) };
-
-    ghost keeps = { vec-keeps (B·Table .total) (B·Table .keeps) };
-
-    ghost roots = { vec-roots (λ p. p .elements) (λ p. p .size .low) (λ p. p .size .high) (λ p. (p .size .ordered, p .few)) (B·Table .roots) };
+    ghost pile = { vec-pile (B·Table .rows) (B·Table .short) (B·Table .grows) (B·Table .stated) _ (λ p. p .elements) (λ p. p .size .low) (λ p. p .size .high) (λ p. (p .size .ordered, p .few)) (B·Table .pile) };
 
     fn is_grown(&self) -> bool {
         self.grown

@@ -1,0 +1,84 @@
+-- Every pile keeps its meaning, and so the promise.
+
+use mathlib.Core.Path.{_≡_}
+use mathlib.Core.List.{List, [], _∷_}
+use mathlib.Core.Bool.{Bool, true, false}
+use Prim.Native.Nat.{ℕ, zero, suc, _≤_, _<_}
+use lib.ListN.{length}
+use Rattle.std.specs.declared.result.Result.the-variants.{Ok}
+use Rattle.draws.specs.Sources.{Words}
+use Rattle.draws.specs.Runners.{RunnerState}
+use Rattle.meaning.specs.Trees.{Steps, Total, Keeps}
+use Rattle.meaning.specs.Places.{Place}
+use Rattle.meaning.specs.PlaceLaws.{if-grown, WhereGrown}
+use Rattle.meaning.specs.Growths.{Growth, Roots}
+use Rattle.meaning.specs.Tables.{TableGrowth}
+use Rattle.meaning.specs.TableLaws.{TableTotal, TableKeeps, TableRoots, Standing, Slot}
+use Rattle.meaning.specs.Vectors.{VecTree, members}
+use Rattle.meaning.specs.VectorLaws.{VecSound, vec-sound}
+use Rattle.meaning.specs.Runs.{Call, Promised, history}
+use Rattle.meaning.specs.Piles.{Pile, TablePile, VecShown, Shown, ShownAt, Promise}
+use Rattle.meaning.specs.Piles.Pile.{leaf, vec}
+use Rattle.meaning.specs.Piles.TablePile.{slice}
+use Rattle.meaning.proofs.SliceLaws.{slice-total, slice-keeps, slice-roots}
+use Rattle.meaning.proofs.VectorSteps.{vec-total, vec-keeps}
+use Rattle.meaning.proofs.VectorGrowth.{vec-roots}
+use Rattle.meaning.proofs.Promising.{promised}
+
+-- when a state of a pile is sound
+abbrev mutual
+  pub Sound : {S I P : Type 0} {t : Steps S I} {short : P → S → Bool} {g : Growth P S} {stated : P → ℕ} → Pile S I P t short g stated → S → Type 0
+  Sound (leaf t short g stated sound total keeps roots) s = sound s
+  Sound (vec table short g stated Q elements low high sizes pile) s = vec-sound table (SoundAt pile) s
+
+  pub SoundAt : {T I E : Type 0} {table : ℕ → Steps T I} {short : E → ℕ → T → Bool} {g : TableGrowth E T} {stated : E → ℕ → ℕ} → TablePile T I E table short g stated → ℕ → T → Type 0
+  SoundAt (slice t short g stated E element pile) i xs = Slot (Sound pile) i xs
+
+mutual
+  pub pile-total : {S I P : Type 0} {t : Steps S I} {short : P → S → Bool} {g : Growth P S} {stated : P → ℕ} → Pile S I P t short g stated → Total t
+  pile-total (leaf t short g stated sound total keeps roots) = total
+  pile-total (vec table short g stated Q elements low high sizes pile) = vec-total (table-total pile)
+
+  table-total : {T I E : Type 0} {table : ℕ → Steps T I} {short : E → ℕ → T → Bool} {g : TableGrowth E T} {stated : E → ℕ → ℕ} → TablePile T I E table short g stated → TableTotal table
+  table-total (slice t short g stated E element pile) = slice-total (pile-total pile)
+
+mutual
+  pub pile-keeps : {S I P : Type 0} {t : Steps S I} {short : P → S → Bool} {g : Growth P S} {stated : P → ℕ} (pile : Pile S I P t short g stated) → Keeps t (Sound pile)
+  pile-keeps (leaf t short g stated sound total keeps roots) = keeps
+  pile-keeps (vec table short g stated Q elements low high sizes pile) = vec-keeps (table-total pile) (table-keeps pile)
+
+  table-keeps : {T I E : Type 0} {table : ℕ → Steps T I} {short : E → ℕ → T → Bool} {g : TableGrowth E T} {stated : E → ℕ → ℕ} (pile : TablePile T I E table short g stated) → TableKeeps table (SoundAt pile)
+  table-keeps (slice t short g stated E element pile) = slice-keeps (pile-keeps pile)
+
+mutual
+  pub pile-roots : {S I P : Type 0} {t : Steps S I} {short : P → S → Bool} {g : Growth P S} {stated : P → ℕ} (pile : Pile S I P t short g stated) → Roots t (Sound pile) short g stated
+  pile-roots (leaf t short g stated sound total keeps roots) = roots
+  pile-roots (vec table short g stated Q elements low high sizes pile) = vec-roots elements low high sizes (table-roots pile)
+
+  table-roots : {T I E : Type 0} {table : ℕ → Steps T I} {short : E → ℕ → T → Bool} {g : TableGrowth E T} {stated : E → ℕ → ℕ} (pile : TablePile T I E table short g stated) → TableRoots table (SoundAt pile) short g stated
+  table-roots (slice t short g stated E element pile) = slice-roots element (pile-roots pile)
+
+-- a sound state shows what each layer is to show
+grown-tells : {B : Type 0} (P Q : B → Type 0) → ((b : B) → P b → Q b) → (p : Place B) → WhereGrown P p → WhereGrown Q p
+grown-tells P Q f p = by (p .grown)
+  where
+    by : (b : Bool) → if-grown b (P (p .tree)) → if-grown b (Q (p .tree))
+    by true h = f (p .tree) h
+    by false h = tt
+
+slot-tells : {S : Type 0} {P Q : S → Type 0} → ((s : S) → P s → Q s) → (i : ℕ) (xs : List S) → Slot P i xs → Slot Q i xs
+slot-tells f i [] h = h
+slot-tells f zero (x ∷ xs) h = f x h
+slot-tells f (suc i) (x ∷ xs) h = slot-tells f i xs h
+
+mutual
+  pub sound-shows : {S I P : Type 0} {t : Steps S I} {short : P → S → Bool} {g : Growth P S} {stated : P → ℕ} (pile : Pile S I P t short g stated) (s : S) → Sound pile s → Shown pile s
+  sound-shows (leaf t short g stated sound total keeps roots) s h = tt
+  sound-shows (vec table short g stated Q elements low high sizes pile) s h = grown-tells (VecSound table (λ i. Standing (table i) (SoundAt pile i))) (VecShown (ShownAt pile)) (λ v q. (q .enough, λ i l. sound-shows-at pile i (v .elements) (q .each i l .0))) s h
+
+  sound-shows-at : {T I E : Type 0} {table : ℕ → Steps T I} {short : E → ℕ → T → Bool} {g : TableGrowth E T} {stated : E → ℕ → ℕ} (pile : TablePile T I E table short g stated) (i : ℕ) (s : T) → SoundAt pile i s → ShownAt pile i s
+  sound-shows-at (slice t short g stated E element pile) i xs h = slot-tells (sound-shows pile) i xs h
+
+-- the promise, of every pile
+pub promise : {S I P : Type 0} {t : Steps S I} {short : P → S → Bool} {g : Growth P S} {stated : P → ℕ} (pile : Pile S I P t short g stated) (p : P) (X : Type 0) (w : Words X) (r : RunnerState X) (s : S) → Promise pile p X w r s
+promise {g = g} pile p X w r s accepted calls = promised (pile-keeps pile) (sound-shows pile) (g p X w r s .place) (pile-roots pile .accepted p X w r s accepted .0 .is-sound) calls
