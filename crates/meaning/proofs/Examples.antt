@@ -8,6 +8,7 @@ use lib.ListN.{replicate}
 use Rattle.std.specs.declared.option.Option.the-variants.{None, Some}
 use Rattle.std.specs.declared.result.Result.the-variants.{Err}
 use Rattle.draws.specs.Sources.{TapeState, tape-words}
+use Rattle.draws.specs.Runners.{RunnerState}
 use Rattle.draws.specs.declared.faults.Cause.the-variants.{Slots, Draw}
 use Rattle.draws.specs.declared.faults.DrawFault.the-variants.{Spent}
 use Rattle.meaning.specs.Trees.{Steps}
@@ -18,16 +19,26 @@ use Rattle.meaning.specs.Tables.{slice-table, slice-growth, slice-short, slice
 use Rattle.meaning.specs.Vectors.{VecTree, vec-blank, vec-steps, vec-growth}
 
 -- what is seen of a tree: its candidate, its home and its steps back
-record Seen : Type 0 where
-  shows : List ℕ
-  home : List ℕ
-  back : ℕ
+pub record Seen : Type 0 where
+  pub shows : List ℕ
+  pub home : List ℕ
+  pub back : ℕ
 
-abbrev seen : {S : Type 0} → Steps S ℕ → S → Seen
+abbrev pub seen : {S : Type 0} → Steps S ℕ → S → Seen
 seen t s = record { shows = t .candidate s; home = t .home s; back = t .back s }
 
+-- a tree after some steps: true for simplify, false for complicate
+abbrev pub after : {S : Type 0} → Steps S ℕ → List Bool → S → S
+after t [] s = s
+after t (true ∷ more) s = after t more (t .simplify s .tree)
+after t (false ∷ more) s = after t more (t .complicate s .tree)
+
+-- a runner on a tape, with no regeneration and no rejection
+abbrev pub on-tape : List ℕ → RunnerState TapeState
+on-tape words = record { source = record { words = words; place = 0 }; cases = 0; regenerations = 0; rejections = 0 }
+
 -- a stair, and one of its steps
-abbrev stair-at : ℕ → Place StairTree
+abbrev pub stair-at : ℕ → Place StairTree
 stair-at v = record { grown = true; tree = record { value = v; floor = 0; note = None } }
 
 abbrev down : Place StairTree → Place StairTree
@@ -50,20 +61,17 @@ stair-rests : stair-steps .simplify (up (down (down (stair-at 3)))) .answer ≡ 
 stair-rests = refl
 
 -- a vector of stairs with the limit 9, grown into three slots from a tape
-abbrev blank : Place StairTree
+abbrev pub blank : Place StairTree
 blank = record { grown = false; tree = record { value = 0; floor = 0; note = None } }
 
 abbrev grown : (low high : ℕ) → List ℕ → Outcome TapeState (Place (VecTree (List (Place StairTree))))
-grown low high words = vec-growth {P = Unit {0}} (λ p. p) (λ p. low) (λ p. high) (slice-stated (λ p. p) (λ p. 1)) (slice-short (λ p. p) (λ p s. false)) (slice-growth (λ p. p) (stair-growth (λ p. 9))) tt TapeState tape-words (record { source = record { words = words; place = 0 }; cases = 0; regenerations = 0; rejections = 0 }) (vec-blank (replicate 3 blank))
+grown low high words = vec-growth {P = Unit {0}} (λ p. p) (λ p. low) (λ p. high) (slice-stated (λ p. p) (λ p. 1)) (slice-short (λ p. p) (λ p s. false)) (slice-growth (λ p. p) (stair-growth (λ p. 9))) tt TapeState tape-words (on-tape words) (vec-blank (replicate 3 blank))
 
 abbrev vector : Steps (Place (VecTree (List (Place StairTree)))) ℕ
 vector = vec-steps (slice-table stair-steps)
 
--- one step by its letter: true for simplify, false for complicate
 abbrev steps : List Bool → Place (VecTree (List (Place StairTree))) → Place (VecTree (List (Place StairTree)))
-steps [] v = v
-steps (true ∷ more) v = steps more (vector .simplify v .tree)
-steps (false ∷ more) v = steps more (vector .complicate v .tree)
+steps = after vector
 
 vector-grown : seen vector (grown 1 3 (2 ∷ 5 ∷ 7 ∷ 4 ∷ []) .place) ≡ record { shows = 5 ∷ 7 ∷ 4 ∷ []; home = 5 ∷ 7 ∷ 4 ∷ []; back = 0 }
 vector-grown = refl

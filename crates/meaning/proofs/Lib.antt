@@ -7,5 +7,10 @@ pub mod VectorSteps
 pub mod VectorGrowth
 pub mod SliceVector
 mod Examples
+mod Elements
+pub mod PairLaws
+pub mod ArrayLaws
+mod PairExamples
+mod ArrayExamples
 pub mod Promising
 pub mod Piling

@@ -16,13 +16,17 @@ use Rattle.meaning.specs.Tables.{TableGrowth}
 use Rattle.meaning.specs.TableLaws.{TableTotal, TableKeeps, TableRoots, Standing, Slot}
 use Rattle.meaning.specs.Vectors.{VecTree, members}
 use Rattle.meaning.specs.VectorLaws.{VecSound, vec-sound}
+use Rattle.meaning.specs.Pairs.{Pair, end-sound, pair-sound}
+use Rattle.meaning.specs.Arrays.{ArrayTree, as-vector, array-sound}
 use Rattle.meaning.specs.Runs.{Call, Promised, history}
 use Rattle.meaning.specs.Piles.{Pile, TablePile, VecShown, Shown, ShownAt, Promise}
-use Rattle.meaning.specs.Piles.Pile.{leaf, vec}
-use Rattle.meaning.specs.Piles.TablePile.{slice}
+use Rattle.meaning.specs.Piles.Pile.{leaf, vec, array}
+use Rattle.meaning.specs.Piles.TablePile.{slice, end, pair}
 use Rattle.meaning.proofs.SliceLaws.{slice-total, slice-keeps, slice-roots}
 use Rattle.meaning.proofs.VectorSteps.{vec-total, vec-keeps}
 use Rattle.meaning.proofs.VectorGrowth.{vec-roots}
+use Rattle.meaning.proofs.PairLaws.{end-total, end-keeps, end-roots, pair-total, pair-keeps, pair-roots}
+use Rattle.meaning.proofs.ArrayLaws.{array-total, array-keeps, array-roots}
 use Rattle.meaning.proofs.Promising.{promised}
 
 -- when a state of a pile is sound
@@ -30,33 +34,45 @@ abbrev mutual
   pub Sound : {S I P : Type 0} {t : Steps S I} {short : P → S → Bool} {g : Growth P S} {stated : P → ℕ} → Pile S I P t short g stated → S → Type 0
   Sound (leaf t short g stated sound total keeps roots) s = sound s
   Sound (vec table short g stated Q elements low high sizes pile) s = vec-sound table (SoundAt pile) s
+  Sound (array table short g stated Q elements size pile) s = array-sound table (SoundAt pile) s
 
   pub SoundAt : {T I E : Type 0} {table : ℕ → Steps T I} {short : E → ℕ → T → Bool} {g : TableGrowth E T} {stated : E → ℕ → ℕ} → TablePile T I E table short g stated → ℕ → T → Type 0
   SoundAt (slice t short g stated E element pile) i xs = Slot (Sound pile) i xs
+  SoundAt (end E) i s = end-sound i s
+  SoundAt (pair t short g stated table shorts gs stateds E first rest pile piles) i s = pair-sound (Sound pile) (SoundAt piles) i s
 
 mutual
   pub pile-total : {S I P : Type 0} {t : Steps S I} {short : P → S → Bool} {g : Growth P S} {stated : P → ℕ} → Pile S I P t short g stated → Total t
   pile-total (leaf t short g stated sound total keeps roots) = total
   pile-total (vec table short g stated Q elements low high sizes pile) = vec-total (table-total pile)
+  pile-total (array table short g stated Q elements size pile) = array-total (table-total pile)
 
   table-total : {T I E : Type 0} {table : ℕ → Steps T I} {short : E → ℕ → T → Bool} {g : TableGrowth E T} {stated : E → ℕ → ℕ} → TablePile T I E table short g stated → TableTotal table
   table-total (slice t short g stated E element pile) = slice-total (pile-total pile)
+  table-total (end E) = end-total
+  table-total (pair t short g stated table shorts gs stateds E first rest pile piles) = pair-total (pile-total pile) (table-total piles)
 
 mutual
   pub pile-keeps : {S I P : Type 0} {t : Steps S I} {short : P → S → Bool} {g : Growth P S} {stated : P → ℕ} (pile : Pile S I P t short g stated) → Keeps t (Sound pile)
   pile-keeps (leaf t short g stated sound total keeps roots) = keeps
   pile-keeps (vec table short g stated Q elements low high sizes pile) = vec-keeps (table-total pile) (table-keeps pile)
+  pile-keeps (array table short g stated Q elements size pile) = array-keeps (table-total pile) (table-keeps pile)
 
   table-keeps : {T I E : Type 0} {table : ℕ → Steps T I} {short : E → ℕ → T → Bool} {g : TableGrowth E T} {stated : E → ℕ → ℕ} (pile : TablePile T I E table short g stated) → TableKeeps table (SoundAt pile)
   table-keeps (slice t short g stated E element pile) = slice-keeps (pile-keeps pile)
+  table-keeps (end E) = end-keeps
+  table-keeps (pair t short g stated table shorts gs stateds E first rest pile piles) = pair-keeps (pile-keeps pile) (table-keeps piles)
 
 mutual
   pub pile-roots : {S I P : Type 0} {t : Steps S I} {short : P → S → Bool} {g : Growth P S} {stated : P → ℕ} (pile : Pile S I P t short g stated) → Roots t (Sound pile) short g stated
   pile-roots (leaf t short g stated sound total keeps roots) = roots
   pile-roots (vec table short g stated Q elements low high sizes pile) = vec-roots elements low high sizes (table-roots pile)
+  pile-roots (array table short g stated Q elements size pile) = array-roots elements size (table-roots pile)
 
   table-roots : {T I E : Type 0} {table : ℕ → Steps T I} {short : E → ℕ → T → Bool} {g : TableGrowth E T} {stated : E → ℕ → ℕ} (pile : TablePile T I E table short g stated) → TableRoots table (SoundAt pile) short g stated
   table-roots (slice t short g stated E element pile) = slice-roots element (pile-roots pile)
+  table-roots (end E) = end-roots
+  table-roots (pair t short g stated table shorts gs stateds E first rest pile piles) = pair-roots first rest (pile-roots pile) (table-roots piles)
 
 -- a sound state shows what each layer is to show
 grown-tells : {B : Type 0} (P Q : B → Type 0) → ((b : B) → P b → Q b) → (p : Place B) → WhereGrown P p → WhereGrown Q p
@@ -71,13 +87,23 @@ slot-tells f i [] h = h
 slot-tells f zero (x ∷ xs) h = f x h
 slot-tells f (suc i) (x ∷ xs) h = slot-tells f i xs h
 
+pair-tells : {S T : Type 0} {P Q : S → Type 0} {Ps Qs : ℕ → T → Type 0} → ((s : S) → P s → Q s) → ((i : ℕ) (t : T) → Ps i t → Qs i t) → (i : ℕ) (s : Pair S T) → pair-sound P Ps i s → pair-sound Q Qs i s
+pair-tells f fs zero s h = f (s .first) h
+pair-tells f fs (suc i) s h = fs i (s .rest) h
+
+vec-tells : {T I : Type 0} {table : ℕ → Steps T I} {sounds shows : ℕ → T → Type 0} → ((i : ℕ) (s : T) → sounds i s → shows i s) → (v : VecTree T) → VecSound table (λ i. Standing (table i) (sounds i)) v → VecShown shows v
+vec-tells f v q = (q .enough, λ i l. f i (v .elements) (q .each i l .0))
+
 mutual
   pub sound-shows : {S I P : Type 0} {t : Steps S I} {short : P → S → Bool} {g : Growth P S} {stated : P → ℕ} (pile : Pile S I P t short g stated) (s : S) → Sound pile s → Shown pile s
   sound-shows (leaf t short g stated sound total keeps roots) s h = tt
-  sound-shows (vec table short g stated Q elements low high sizes pile) s h = grown-tells (VecSound table (λ i. Standing (table i) (SoundAt pile i))) (VecShown (ShownAt pile)) (λ v q. (q .enough, λ i l. sound-shows-at pile i (v .elements) (q .each i l .0))) s h
+  sound-shows (vec table short g stated Q elements low high sizes pile) s h = grown-tells (VecSound table (λ i. Standing (table i) (SoundAt pile i))) (VecShown (ShownAt pile)) (vec-tells (sound-shows-at pile)) s h
+  sound-shows (array table short g stated Q elements size pile) s h = grown-tells (λ a. VecSound table (λ i. Standing (table i) (SoundAt pile i)) (as-vector a)) (λ a. VecShown (ShownAt pile) (as-vector a)) (λ a. vec-tells (sound-shows-at pile) (as-vector a)) s h
 
   sound-shows-at : {T I E : Type 0} {table : ℕ → Steps T I} {short : E → ℕ → T → Bool} {g : TableGrowth E T} {stated : E → ℕ → ℕ} (pile : TablePile T I E table short g stated) (i : ℕ) (s : T) → SoundAt pile i s → ShownAt pile i s
   sound-shows-at (slice t short g stated E element pile) i xs h = slot-tells (sound-shows pile) i xs h
+  sound-shows-at (end E) i s h = h
+  sound-shows-at (pair t short g stated table shorts gs stateds E first rest pile piles) i s h = pair-tells (sound-shows pile) (sound-shows-at piles) i s h
 
 -- the promise, of every pile
 pub promise : {S I P : Type 0} {t : Steps S I} {short : P → S → Bool} {g : Growth P S} {stated : P → ℕ} (pile : Pile S I P t short g stated) (p : P) (X : Type 0) (w : Words X) (r : RunnerState X) (s : S) → Promise pile p X w r s

@@ -4,7 +4,7 @@ use mathlib.Core.Path.{_≡_, refl, sym, _∙_, ap}
 use mathlib.Core.List.{List, [], _∷_}
 use mathlib.Core.Bool.{Bool, true, false, cond, true≢false}
 use Prim.Native.Nat.{ℕ, zero, suc, _+_, _*_, _≤_, _<_}
-use native.Mathlib.Nat.{le-refl, suc-mul}
+use native.Mathlib.Nat.{le-refl, suc-mul, zero-mul}
 use native.Mathlib.Omega.{arith}
 use lib.ListN.{length}
 use Rattle.std.specs.declared.result.Result.the-variants.{Ok, Err}
@@ -158,5 +158,6 @@ slice-roots {t = t} {sound = sound} {short = short} {g = g} {stated = stated} un
   untold = λ q X w. grow-at-untold (g (under q) X w) (short (under q)) (roots .untold (under q) X w);
   lasting = λ q other X w. grow-at-lasting (g (under q) X w) (short (under other)) (roots .lasting (under q) (under other) X w);
   calm = λ q X w. grow-at-calm (g (under q) X w) (roots .calm (under q) X w);
+  none = λ q. zero-mul (stated (under q));
   rising = λ q n. let more = suc-mul n (stated (under q)) in omega arith;
 }

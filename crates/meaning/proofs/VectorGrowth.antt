@@ -1,13 +1,13 @@
 -- The laws of a vector's growth, over any table.
 --   vec-roots   a vector's growth keeps what every growth should, where that of its elements does
 
-use mathlib.Core.Path.{_≡_, refl, _∙_, ap}
+use mathlib.Core.Path.{_≡_, refl, ap}
 use mathlib.Core.Bool.{Bool, true, false, cond}
 use Prim.Native.Nat.{ℕ, zero, suc, _+_, _-_, _^_, _≤_, _<_}
-use native.Mathlib.Nat.{le-refl, mod-lt, le-min}
+use native.Mathlib.Nat.{mod-lt}
 use native.Mathlib.Omega.{arith}
 use lib.Dec.{ltb}
-use Rattle.std.proofs.shelf.Tests.{lt-ltb, ltb-false}
+use Rattle.std.proofs.shelf.Tests.{lt-ltb}
 use Rattle.std.specs.declared.option.Option.{Option}
 use Rattle.std.specs.declared.option.Option.the-variants.{None, Some}
 use Rattle.std.specs.declared.result.Result.{Result}
@@ -15,22 +15,19 @@ use Rattle.std.specs.declared.result.Result.the-variants.{Ok, Err}
 use Rattle.draws.specs.Draws.{within, drawn}
 use Rattle.draws.specs.Runners.{RunnerState, advanced}
 use Rattle.draws.specs.Sources.{Words, word}
-use Rattle.draws.specs.declared.faults.Cause.{Cause}
-use Rattle.draws.specs.declared.faults.Cause.the-variants.{Slots}
 use Rattle.draws.specs.declared.faults.DrawFault.{DrawFault}
 use Rattle.meaning.specs.declared.collection.Shrink.the-variants.{DeleteElement}
 use Rattle.meaning.specs.Trees.{Steps}
 use Rattle.meaning.specs.Places.{Place}
 use Rattle.meaning.specs.PlaceLaws.{holding}
 use Rattle.meaning.specs.Growths.{Grown, Outcome, Growth, Rooted, Roots}
-use Rattle.meaning.specs.GrowthLaws.{gives, draw-is-not-slots, Grew, unless-roots}
+use Rattle.meaning.specs.GrowthLaws.{draw-is-not-slots, Grew, unless-roots}
 use Rattle.meaning.specs.Tables.{TableGrowth}
-use Rattle.meaning.specs.TableLaws.{Standing, TableRoots, together}
+use Rattle.meaning.specs.TableLaws.{TableRoots}
 use Rattle.meaning.specs.Vectors.{all-of, VecTree, vec-steps, grow-from, vec-grown, vec-sized, most-items, vec-stated, vec-short, vec-growth}
 use Rattle.meaning.specs.VectorLaws.{vec-sound}
-use Rattle.meaning.proofs.Included.{all-length, all-members, all-there}
-use Rattle.meaning.proofs.Joining.{everywhere, together-same}
-use Rattle.meaning.proofs.Growing.{neither, Given, given-from}
+use Rattle.meaning.proofs.Growing.{Given}
+use Rattle.meaning.proofs.Elements.{slots-and-room, Elements, all-sound, Kept, unchanged, Done, Failed, elements-given}
 
 -- a drawn size lies in its range
 within-range : (low high word : ℕ) → low ≤ high → high ≤ 256 → (low ≤ within low high word) × (within low high word ≤ high)
@@ -49,96 +46,28 @@ rises f rising (suc more) n m e = let next = rising n in let rest = rises f risi
 
 module _ {T I P : Type 0} {table : ℕ → Steps T I} {sound : ℕ → T → Type 0} {short : P → ℕ → T → Bool} {g : TableGrowth P T} {stated : P → ℕ → ℕ}
     (roots : TableRoots table sound short g stated) (p : P) (X : Type 0) (w : Words X) where
-  -- the first n elements stand, and together state no more than the strategy does
-  record Elements (n : ℕ) (s : T) : Type 0 where
-    each : (j : ℕ) → j < n → Standing (table j) (sound j) s
-    room : together (λ j. table j .longest s) n ≤ stated p n
-
-  no-elements : (s : T) → Elements 0 s
-  no-elements s = record { each = λ j below. absurd (omega (arith, below)); room = omega arith }
-
-  one-more : (i : ℕ) (r : RunnerState X) (s : T) → Elements i s → g p X w i r s .answer ≡ Ok tt → Elements (suc i) (g p X w i r s .place)
-  one-more i r s elements e =
-      let now = g p X w i r s .place in
-      let (rooted, states) = roots .accepted p X w i r s e in
-      let apart = λ (j : ℕ) (other : j ≡ i → ⊥). roots .apart p X w i j other r s in
-      record {
-        each = everywhere (λ j. j < suc i → Standing (table j) (sound j) now) i
-            (λ below. (rooted .is-sound, rooted .is-grown))
-            (λ j other below. let standing = elements .each j (omega (arith, other, below)) in (apart j other .still-sound (standing .0), apart j other .same-grown ∙ standing .1));
-        room =
-            let before = together-same (λ j. table j .longest now) (λ j. table j .longest s) i (λ j below. apart j (λ e. omega arith) .same-longest) in
-            let room = elements .room in
-            omega (arith, before, room, states);
-      }
-
   -- a vector of all the elements that grew
-  grown-rooted : (low n longest : ℕ) (s : T) → low ≤ n → stated p n ≤ longest → Elements n s →
+  grown-rooted : (low n longest : ℕ) (s : T) → low ≤ n → stated p n ≤ longest → Elements roots p X w n s →
       Rooted (vec-steps table) (vec-sound table sound) (holding (record { elements = s; included = all-of n; min-size = low; shrink = DeleteElement 0; prev-shrink = None; longest = longest }))
-  grown-rooted low n longest s large fits elements = record {
-    is-sound = record {
-      enough = rw (all-members n) large;
-      each = λ i below. elements .each i (rw all-length at below);
-      ahead = λ i past below. all-there n i below;
-      noted = tt;
-      room = let room = elements .room in rw (all-length n) (omega arith);
-    };
-    is-grown = refl;
-    at-home = refl;
-    no-back = refl;
-  }
-
-  -- what every growth keeps, accepted or not, from the runner and table that it starts with
-  module _ (r : RunnerState X) (s : T) where
-    record Kept (r′ : RunnerState X) (s′ : T) : Type 0 where
-      calm : r′ .rejections ≤ r .rejections
-      lasting : (q : P) (n : ℕ) → short q n s′ ≡ short q n s
-
-    unchanged : Kept r s
-    unchanged = record { calm = le-refl (r .rejections); lasting = λ q n. refl }
-
-    kept-on : (i : ℕ) (r′ : RunnerState X) (s′ : T) → Kept r′ s′ → Kept (g p X w i r′ s′ .runner) (g p X w i r′ s′ .place)
-    kept-on i r′ s′ kept = let before = kept .calm in let here = roots .calm p X w i r′ s′ in record { calm = omega arith; lasting = λ q n. roots .lasting p q X w n i r′ s′ ∙ kept .lasting q n }
-
-    abbrev Done : ℕ → RunnerState X → T → Type 0
-    Done i r′ s′ = Elements i s′ × Kept r′ s′
-
-    abbrev Failed : RunnerState X → T → Cause → Type 0
-    Failed r′ s′ cause = (cause ≡ Slots → ⊥) × Kept r′ s′
-
-    -- n elements that grow in order, where there are slots enough for the highest size
-    module _ (high : ℕ) (enough : short p high s ≡ false) (n : ℕ) (small : n ≤ high) where
-      element-given : (i : ℕ) (r′ : RunnerState X) (s′ : T) → i < n → Done i r′ s′ → Given (g p X w) n Done Failed (suc i) (g p X w i r′ s′) (g p X w i r′ s′ .answer)
-      element-given i r′ s′ below (elements, kept) = gives _ _ (g p X w i r′ s′ .answer)
-          (λ e. (one-more i r′ s′ elements e, kept-on i r′ s′ kept))
-          (λ fault e. (roots .untold p X w high i (omega arith) r′ s′ fault (kept .lasting p high ∙ enough) e, kept-on i r′ s′ kept))
-
-      elements-given : Given (g p X w) n Done Failed n (grow-from (g p X w) n 0 r s) (grow-from (g p X w) n 0 r s .answer)
-      elements-given = given-from (g p X w) n Done Failed element-given n 0 (omega arith) r s (no-elements s, unchanged)
+  grown-rooted low n longest s large fits elements = record { is-sound = all-sound roots p X w low n longest (DeleteElement 0) s large fits elements; is-grown = refl; at-home = refl; no-back = refl }
 
   -- what a vector's growth gives and keeps, after the draw of its size
   module _ (low high longest : ℕ) (fits : stated p high ≤ longest) (r : RunnerState X) (v : VecTree T) (enough : short p high (v .elements) ≡ false) where
     abbrev VecGiven : Outcome X (Place (VecTree T)) → Type 0
-    VecGiven o = Grew (vec-steps table) (vec-sound table sound) longest (o .place) (o .answer) × Kept r (v .elements) (o .runner) (o .place .tree .elements)
+    VecGiven o = Grew (vec-steps table) (vec-sound table sound) longest (o .place) (o .answer) × Kept roots p X w r (v .elements) (o .runner) (o .place .tree .elements)
 
-    grown-given : (n : ℕ) → low ≤ n → n ≤ high → (o : Outcome X T) (answer : Grown) → Given (g p X w) n (Done r (v .elements)) (Failed r (v .elements)) n o answer → VecGiven (vec-grown low longest n v o answer)
+    grown-given : (n : ℕ) → low ≤ n → n ≤ high → (o : Outcome X T) (answer : Grown) → Given (g p X w) n (Done roots p X w r (v .elements)) (Failed roots p X w r (v .elements)) n o answer → VecGiven (vec-grown low longest n v o answer)
     grown-given n large small o (Ok _) (elements, kept) =
         let rest = rises (stated p) (roots .rising p) (high - n) n high (omega arith) in
         ((grown-rooted low n longest (o .place) large (omega arith) elements, refl), kept)
     grown-given n large small o (Err fault) (not-slots, kept) = ((not-slots, refl), kept)
 
     sized-given : (d : Result ℕ DrawFault) → ((n : ℕ) → d ≡ Ok n → (low ≤ n) × (n ≤ high)) → VecGiven (vec-sized (g p X w) low longest v r d)
-    sized-given (Err fault) range = ((draw-is-not-slots, refl), unchanged r (v .elements))
+    sized-given (Err fault) range = ((draw-is-not-slots, refl), unchanged roots p X w r (v .elements))
     sized-given (Ok n) range =
         let (large, small) = range n refl in
         let o = grow-from (g p X w) n 0 r (v .elements) in
-        grown-given n large small o (o .answer) (elements-given r (v .elements) high enough n small)
-
-slots-and-room : {T : Type 0} (short : ℕ → T → Bool) (stated : ℕ → ℕ) (high : ℕ) (v : Place (VecTree T)) → vec-short short stated high v ≡ false →
-    (short high (v .tree .elements) ≡ false) × (stated high ≤ vec-stated stated high)
-slots-and-room short stated high v enough =
-    let (slots, room) = neither (short high (v .tree .elements)) (ltb most-items (stated high)) enough in
-    (slots, le-min (le-refl (stated high)) (ltb-false most-items (stated high) room))
+        grown-given n large small o (o .answer) (elements-given roots p X w r (v .elements) high enough n small)
 
 pub vec-roots : {T I P Q : Type 0} {table : ℕ → Steps T I} {sound : ℕ → T → Type 0} {short : P → ℕ → T → Bool} {g : TableGrowth P T} {stated : P → ℕ → ℕ}
     (under : Q → P) (low high : Q → ℕ) → ((q : Q) → (low q ≤ high q) × (high q ≤ 256)) → TableRoots table sound short g stated →
@@ -160,6 +89,6 @@ vec-roots {T} {I} {P} {Q} {table} {sound} {short} {g} {stated} under low high si
     given : (q : Q) (X : Type 0) (w : Words X) (r : RunnerState X) (v : Place (VecTree T)) → too-short q v ≡ false →
         (let o : Outcome X (Place (VecTree T)) = sized q X w r v in Grew (vec-steps table) (vec-sound table sound) (longest q) (o .place) (o .answer) × Kept roots (under q) X w (advanced w r) (v .tree .elements) (o .runner) (o .place .tree .elements))
     given q X w r v enough =
-        let (slots, room) = slots-and-room (short (under q)) (stated (under q)) (high q) v enough in
+        let (slots, room) = slots-and-room (short (under q)) (stated (under q)) (high q) (v .tree .elements) enough in
         sized-given roots (under q) X w (low q) (high q) (longest q) room (advanced w r) (v .tree) slots
         (drawn (low q) (high q) (word w (r .source))) (drawn-range (low q) (high q) (sizes q .0) (sizes q .1) (word w (r .source)))

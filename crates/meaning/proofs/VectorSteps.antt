@@ -46,17 +46,17 @@ module _ {T I : Type 0} {table : ℕ → Steps T I} (total : TableTotal table) w
   vec-total = placed-total (bare-vector table) (λ v. vec-ends v (v .prev-shrink))
 
 module _ {T I : Type 0} (table : ℕ → Steps T I) (sound : ℕ → T → Type 0) where
-  abbrev vector : Steps (VecTree T) I
+  abbrev pub vector : Steps (VecTree T) I
   vector = always (bare-vector table)
 
-  abbrev Sound : VecTree T → Type 0
+  abbrev pub Sound : VecTree T → Type 0
   Sound = VecSound table sound
 
   abbrev shown : T → ℕ → List I
   shown s i = table i .candidate s
 
   -- a vector stays sound where its elements, its cursor and its note change
-  with-elements : (v : VecTree T) (s : T) (shrink : Shrink) (last : Option Shrink) → Sound v →
+  pub with-elements : (v : VecTree T) (s : T) (shrink : Shrink) (last : Option Shrink) → Sound v →
       ((j : ℕ) → j < length (v .included) → sound j s) → ((j : ℕ) → table j .longest s ≡ table j .longest (v .elements)) → Ahead shrink (v .included) → Noted last (v .included) →
       Sound (record { elements = s; included = v .included; min-size = v .min-size; shrink = shrink; prev-shrink = last; longest = v .longest })
   with-elements v s shrink last is-sound each same-longest ahead noted = record {
@@ -185,7 +185,7 @@ module _ {T I : Type 0} (table : ℕ → Steps T I) (sound : ℕ → T → Type 
         let fits = joined-fits (shown (v .elements)) (λ i. table i .longest (v .elements)) (length (v .included)) each 0 (v .included) (omega arith) in
         let room = is-sound .room in omega (arith, fits, room)
 
-    vector-keeps : Keeps vector Sound
+    pub vector-keeps : Keeps vector Sound
     vector-keeps = record {
       fits = vector-fits;
       simplify = λ v is-sound. simplify-kept v (v .shrink) is-sound (is-sound .ahead);
@@ -208,7 +208,7 @@ apart-standing apart = record {
   still-sound = λ standing. (apart .still-sound (standing .0), apart .same-grown ∙ standing .1);
 }
 
-table-standing : {T I : Type 0} {table : ℕ → Steps T I} {sound : ℕ → T → Type 0} → TableTotal table → TableKeeps table sound → TableKeeps table (λ i. Standing (table i) (sound i))
+pub table-standing : {T I : Type 0} {table : ℕ → Steps T I} {sound : ℕ → T → Type 0} → TableTotal table → TableKeeps table sound → TableKeeps table (λ i. Standing (table i) (sound i))
 table-standing total keeps = record {
   each = λ i. keeps-standing (total i) (keeps .each i);
   simplify-apart = λ i j other s. apart-standing (keeps .simplify-apart i j other s);

@@ -12,6 +12,8 @@ pub mod Tables
 pub mod TableLaws
 pub mod Vectors
 pub mod VectorLaws
+pub mod Pairs
+pub mod Arrays
 pub mod Reductions
 pub mod Runs
 pub mod Piles

@@ -44,7 +44,8 @@ pub record TableRoots {T I P : Type 0} (table : ℕ → Steps T I) (sound : ℕ 
   pub untold : (p : P) (X : Type 0) (w : Words X) (n i : ℕ) → i < n → (r : RunnerState X) (s : T) (fault : GrowFault) → short p n s ≡ false → g p X w i r s .answer ≡ Err fault → fault .cause ≡ Slots → ⊥
   pub lasting : (p q : P) (X : Type 0) (w : Words X) (n i : ℕ) (r : RunnerState X) (s : T) → short q n (g p X w i r s .place) ≡ short q n s
   pub calm : (p : P) (X : Type 0) (w : Words X) (i : ℕ) (r : RunnerState X) (s : T) → g p X w i r s .runner .rejections ≤ r .rejections
-  -- more trees state no less
+  -- no trees state nothing, and more trees state no less
+  pub none : (p : P) → stated p 0 ≡ 0
   pub rising : (p : P) (n : ℕ) → stated p n ≤ stated p (suc n)
 
 abbrev pub together : (ℕ → ℕ) → ℕ → ℕ

@@ -23,9 +23,9 @@ use lines::LineFault;
 use lines::write_at;
 use meaning::size_range::SizeFault;
 use meaning::size_range::SizeRange;
-use meaning::traits::Strategy;
 use meaning::traits::StrategyFault;
 use meaning::traits::ValueTree;
+use meaning::traits::grow;
 use plan::Plan;
 use plan::PlanFault;
 use plan::Step;
@@ -113,7 +113,7 @@ fn begin<'a>(
     let size = SizeRange::new(plan.low(), plan.high())?;
     let strategy = vec(Stairs::new(9), size)?;
     let mut runner = TestRunner::new(Tape::new(plan.draws()), 0, 0, 0);
-    strategy.new_tree(&mut runner, place)?;
+    grow(&strategy, &mut runner, place)?;
     Ok(())
 }
 
