@@ -1,5 +1,5 @@
 ghost use mathlib.Core.Path.{_≡_};
-ghost use Prim.Native.Nat.{ℕ};
+ghost use Prim.Native.Nat.{ℕ, _<_};
 ghost use denote.Ref.{now as held};
 ghost use Rattle.draws.specs.Sources.{Words, word, after, TapeState, tape-words, xorshift, seeded, generator-words};
 
@@ -59,7 +59,8 @@ pub impl<'a> Source for Tape<'a> as TapeSource {
     }
 }
 
-// A generator of 64-bit words by three shifts and exclusive ors. It is never spent.
+// A generator of 64-bit words by three shifts and exclusive ors. It is never spent, and its state is never 0: it is made with
+// another, and no turn leads there.
 #[derive(Clone, Copy)]
 pub struct XorShift {
     x: u64,
@@ -68,7 +69,8 @@ pub struct XorShift {
 impl XorShift {
     // The seed 0, from which only zeros would come, counts as 1.
     pub fn new(seed: u64) -> XorShift
-        ensures { λ r. ⌜ r .x ≡ seeded seed ⌝ }
+        ensures state { λ r. ⌜ r .x ≡ seeded seed ⌝ }
+        ensures live { λ r. ⌜ 0 < r .x ⌝ }
     {
         if seed == 0 {
             XorShift { x: 1 }
@@ -80,6 +82,7 @@ impl XorShift {
     fn step(&mut self) -> u64
         ensures given { λ r. ⌜ r ≡ xorshift (now (self .entry) .x) ⌝ }
         ensures left { λ _. ⌜ now (self .exit) .x ≡ xorshift (now (self .entry) .x) ⌝ }
+        ensures live { λ _. ⌜ (0 < now (self .entry) .x → 0 < now (self .exit) .x) ⌝ }
     {
         let mut x = self.x;
         x ^= x << 13;
@@ -97,7 +100,12 @@ pub impl Source for XorShift as XorShiftSource {
 
     ghost words = { generator-words };
 
-    fn next_word(&mut self) -> Option<u64> {
+    // A state other than 0 stays so: the generator never runs dry.
+    fn next_word(&mut self) -> Option<u64>
+        ensures given { λ r. ⌜ r ≡ word generator-words (now (self .entry) .x) ⌝ }
+        ensures left { λ _. ⌜ now (self .exit) .x ≡ after generator-words (now (self .entry) .x) ⌝ }
+        ensures live { λ _. ⌜ (0 < now (self .entry) .x → 0 < now (self .exit) .x) ⌝ }
+    {
         Some(self.step())
     }
 

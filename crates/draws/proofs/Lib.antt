@@ -1,0 +1,2 @@
+mod Generator
+mod Examples
