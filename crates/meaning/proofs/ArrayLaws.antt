@@ -108,6 +108,7 @@ pub array-roots : {T I P Q : Type 0} {table : ℕ → Steps T I} {sound : ℕ �
 array-roots {T} {I} {P} {Q} {table} {sound} {short} {g} {stated} under size roots = unless-roots (array-steps table) (array-sound table sound) too-short grows longest
     (λ q X w r a enough. given q X w r a enough .0)
     (λ q other X w r a enough. ap (λ (b : Bool). cond b true (ltb most-items (stated (under other) (size other)))) (given q X w r a enough .1 .lasting (under other) (size other)))
+    (λ q a. refl)
     (λ q X w r a enough. given q X w r a enough .1 .calm)
   where
     too-short : Q → Place (ArrayTree T) → Bool

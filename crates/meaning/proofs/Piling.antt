@@ -2,9 +2,12 @@
 
 use mathlib.Core.Path.{_≡_}
 use mathlib.Core.List.{List, [], _∷_}
-use mathlib.Core.Bool.{Bool, true, false}
+use mathlib.Core.Bool.{Bool, true, false, false≢true}
 use Prim.Native.Nat.{ℕ, zero, suc, _≤_, _<_}
 use lib.ListN.{length}
+use Rattle.std.specs.Options.{isSome}
+use Rattle.std.specs.declared.option.Option.{Option}
+use Rattle.std.specs.declared.option.Option.the-variants.{None, Some}
 use Rattle.std.specs.declared.result.Result.the-variants.{Ok}
 use Rattle.draws.specs.Sources.{Words}
 use Rattle.draws.specs.Runners.{RunnerState}
@@ -16,15 +19,22 @@ use Rattle.meaning.specs.Tables.{TableGrowth}
 use Rattle.meaning.specs.TableLaws.{TableTotal, TableKeeps, TableRoots, Standing, Slot}
 use Rattle.meaning.specs.Vectors.{VecTree, members}
 use Rattle.meaning.specs.VectorLaws.{VecSound, vec-sound}
+use Rattle.meaning.specs.Fuses.{fuse-sound}
+use Rattle.meaning.specs.Filters.{filter-sound}
+use Rattle.meaning.specs.FilterMaps.{given, filter-map-sound}
 use Rattle.meaning.specs.Pairs.{Pair, end-sound, pair-sound}
 use Rattle.meaning.specs.Arrays.{ArrayTree, as-vector, array-sound}
 use Rattle.meaning.specs.Runs.{Call, Promised, history}
-use Rattle.meaning.specs.Piles.{Pile, TablePile, VecShown, Shown, ShownAt, Promise}
-use Rattle.meaning.specs.Piles.Pile.{leaf, vec, array}
+use Rattle.meaning.specs.Piles.{Pile, TablePile, Gives, VecShown, Shown, ShownAt, Promise}
+use Rattle.meaning.specs.Piles.Pile.{leaf, fuse, no-shrink, filter, filter-map, vec, array}
 use Rattle.meaning.specs.Piles.TablePile.{slice, end, pair}
 use Rattle.meaning.proofs.SliceLaws.{slice-total, slice-keeps, slice-roots}
 use Rattle.meaning.proofs.VectorSteps.{vec-total, vec-keeps}
 use Rattle.meaning.proofs.VectorGrowth.{vec-roots}
+use Rattle.meaning.proofs.FuseLaws.{fuse-total, fuse-keeps, fuse-roots}
+use Rattle.meaning.proofs.NoShrinkLaws.{no-shrink-total, no-shrink-keeps, no-shrink-roots}
+use Rattle.meaning.proofs.FilterLaws.{filter-total, filter-keeps, filter-roots}
+use Rattle.meaning.proofs.FilterMapLaws.{filter-map-total, filter-map-keeps, filter-map-roots, filter-map-shows}
 use Rattle.meaning.proofs.PairLaws.{end-total, end-keeps, end-roots, pair-total, pair-keeps, pair-roots}
 use Rattle.meaning.proofs.ArrayLaws.{array-total, array-keeps, array-roots}
 use Rattle.meaning.proofs.Promising.{promised}
@@ -33,6 +43,10 @@ use Rattle.meaning.proofs.Promising.{promised}
 abbrev mutual
   pub Sound : {S I P : Type 0} {t : Steps S I} {short : P → S → Bool} {g : Growth P S} {stated : P → ℕ} → Pile S I P t short g stated → S → Type 0
   Sound (leaf t short g stated sound total keeps roots) s = sound s
+  Sound (fuse t short g stated Q under pile) s = fuse-sound (Sound pile) s
+  Sound (no-shrink t short g stated Q under pile) s = Sound pile s
+  Sound (filter t short g stated Q under rule pile) s = filter-sound t (Sound pile) s
+  Sound (filter-map t short g stated Q under map pile) s = filter-map-sound t (Sound pile) s
   Sound (vec table short g stated Q elements low high sizes pile) s = vec-sound table (SoundAt pile) s
   Sound (array table short g stated Q elements size pile) s = array-sound table (SoundAt pile) s
 
@@ -44,6 +58,10 @@ abbrev mutual
 mutual
   pub pile-total : {S I P : Type 0} {t : Steps S I} {short : P → S → Bool} {g : Growth P S} {stated : P → ℕ} → Pile S I P t short g stated → Total t
   pile-total (leaf t short g stated sound total keeps roots) = total
+  pile-total (fuse t short g stated Q under pile) = fuse-total (pile-total pile)
+  pile-total (no-shrink t short g stated Q under pile) = no-shrink-total (pile-total pile)
+  pile-total (filter t short g stated Q under rule pile) = filter-total (pile-total pile)
+  pile-total (filter-map t short g stated Q under map pile) = filter-map-total (pile-total pile)
   pile-total (vec table short g stated Q elements low high sizes pile) = vec-total (table-total pile)
   pile-total (array table short g stated Q elements size pile) = array-total (table-total pile)
 
@@ -55,6 +73,10 @@ mutual
 mutual
   pub pile-keeps : {S I P : Type 0} {t : Steps S I} {short : P → S → Bool} {g : Growth P S} {stated : P → ℕ} (pile : Pile S I P t short g stated) → Keeps t (Sound pile)
   pile-keeps (leaf t short g stated sound total keeps roots) = keeps
+  pile-keeps (fuse t short g stated Q under pile) = fuse-keeps (pile-keeps pile)
+  pile-keeps (no-shrink t short g stated Q under pile) = no-shrink-keeps (pile-keeps pile)
+  pile-keeps (filter t short g stated Q under rule pile) = filter-keeps (pile-keeps pile)
+  pile-keeps (filter-map t short g stated Q under map pile) = filter-map-keeps (pile-total pile) (pile-keeps pile)
   pile-keeps (vec table short g stated Q elements low high sizes pile) = vec-keeps (table-total pile) (table-keeps pile)
   pile-keeps (array table short g stated Q elements size pile) = array-keeps (table-total pile) (table-keeps pile)
 
@@ -66,6 +88,10 @@ mutual
 mutual
   pub pile-roots : {S I P : Type 0} {t : Steps S I} {short : P → S → Bool} {g : Growth P S} {stated : P → ℕ} (pile : Pile S I P t short g stated) → Roots t (Sound pile) short g stated
   pile-roots (leaf t short g stated sound total keeps roots) = roots
+  pile-roots (fuse t short g stated Q under pile) = fuse-roots under (pile-roots pile)
+  pile-roots (no-shrink t short g stated Q under pile) = no-shrink-roots under (pile-roots pile)
+  pile-roots (filter t short g stated Q under rule pile) = filter-roots under rule (pile-total pile) (pile-roots pile)
+  pile-roots (filter-map t short g stated Q under map pile) = filter-map-roots under map (pile-total pile) (pile-roots pile)
   pile-roots (vec table short g stated Q elements low high sizes pile) = vec-roots elements low high sizes (table-roots pile)
   pile-roots (array table short g stated Q elements size pile) = array-roots elements size (table-roots pile)
 
@@ -94,9 +120,17 @@ pair-tells f fs (suc i) s h = fs i (s .rest) h
 vec-tells : {T I : Type 0} {table : ℕ → Steps T I} {sounds shows : ℕ → T → Type 0} → ((i : ℕ) (s : T) → sounds i s → shows i s) → (v : VecTree T) → VecSound table (λ i. Standing (table i) (sounds i)) v → VecShown shows v
 vec-tells f v q = (q .enough, λ i l. f i (v .elements) (q .each i l .0))
 
+map-tells : {J : Type 0} (o : Option J) (shown : List J) → isSome o ≡ true → shown ≡ given o → Gives o shown
+map-tells None shown some e = absurd (false≢true some)
+map-tells (Some item) shown some e = e
+
 mutual
   pub sound-shows : {S I P : Type 0} {t : Steps S I} {short : P → S → Bool} {g : Growth P S} {stated : P → ℕ} (pile : Pile S I P t short g stated) (s : S) → Sound pile s → Shown pile s
   sound-shows (leaf t short g stated sound total keeps roots) s h = tt
+  sound-shows (fuse t short g stated Q under pile) s h = sound-shows pile (s .inner) h
+  sound-shows (no-shrink t short g stated Q under pile) s h = sound-shows pile s h
+  sound-shows (filter t short g stated Q under rule pile) s h = (λ grown. h .candidate, sound-shows pile (s .source) (h .is-sound))
+  sound-shows (filter-map t short g stated Q under map pile) s h = (λ grown. map-tells (s .fun (t .candidate (s .source))) _ (h .candidate) (filter-map-shows t (Sound pile) s h grown .0), sound-shows pile (s .source) (h .is-sound))
   sound-shows (vec table short g stated Q elements low high sizes pile) s h = grown-tells (VecSound table (λ i. Standing (table i) (SoundAt pile i))) (VecShown (ShownAt pile)) (vec-tells (sound-shows-at pile)) s h
   sound-shows (array table short g stated Q elements size pile) s h = grown-tells (λ a. VecSound table (λ i. Standing (table i) (SoundAt pile i)) (as-vector a)) (λ a. VecShown (ShownAt pile) (as-vector a)) (λ a. vec-tells (sound-shows-at pile) (as-vector a)) s h
 

@@ -75,6 +75,7 @@ pub vec-roots : {T I P Q : Type 0} {table : ℕ → Steps T I} {sound : ℕ → 
 vec-roots {T} {I} {P} {Q} {table} {sound} {short} {g} {stated} under low high sizes roots = unless-roots (vec-steps table) (vec-sound table sound) too-short sized longest
     (λ q X w r v enough. given q X w r v enough .0)
     (λ q other X w r v enough. ap (λ (b : Bool). cond b true (ltb most-items (stated (under other) (high other)))) (given q X w r v enough .1 .lasting (under other) (high other)))
+    (λ q v. refl)
     (λ q X w r v enough. given q X w r v enough .1 .calm)
   where
     too-short : Q → Place (VecTree T) → Bool

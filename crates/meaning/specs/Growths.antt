@@ -65,5 +65,7 @@ pub record Roots {S I P : Type 0} (t : Steps S I) (sound : S → Type 0) (short 
   pub told : (p : P) (X : Type 0) (w : Words X) (r : RunnerState X) (s : S) → short p s ≡ true → g p X w r s ≡ record { answer = Err too-few-slots; runner = r; place = s }
   pub untold : (p : P) (X : Type 0) (w : Words X) (r : RunnerState X) (s : S) (fault : GrowFault) → short p s ≡ false → g p X w r s .answer ≡ Err fault → fault .cause ≡ Slots → ⊥
   pub lasting : (p q : P) (X : Type 0) (w : Words X) (r : RunnerState X) (s : S) → short q (g p X w r s .place) ≡ short q s
+  -- nor does making the place blank
+  pub blanked : (q : P) (s : S) → short q (t .blank s) ≡ short q s
   -- rejections never rise
   pub calm : (p : P) (X : Type 0) (w : Words X) (r : RunnerState X) (s : S) → g p X w r s .runner .rejections ≤ r .rejections

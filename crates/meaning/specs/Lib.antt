@@ -14,6 +14,13 @@ pub mod Vectors
 pub mod VectorLaws
 pub mod Pairs
 pub mod Arrays
+pub mod Justs
+pub mod Wraps
+pub mod Fuses
+pub mod NoShrinks
+pub mod Sifters
+pub mod Filters
+pub mod FilterMaps
 pub mod Reductions
 pub mod Runs
 pub mod Piles

@@ -10,14 +10,22 @@
 --                 it too; when a verdict is due and the budget is used, it is spent
 --   refusal       why a reduction is refused, if it is: a buffer shorter than the stated longest, then a budget of 0, then a
 --                 blank tree
+--   copied        the result buffer after some events: each list that failed was copied over its first items
+--   Done          what a reduction answers, and what it leaves of the tree and of the result buffer
+--   reduces       what a call answers and leaves, refused or not
 --   reduce-number the number of a refused reduction
 
 use mathlib.Core.List.{List, [], _∷_}
 use mathlib.Core.Bool.{Bool, true, false, cond}
-use Prim.Native.Nat.{ℕ, zero, suc, _+_}
+use Prim.Native.Nat.{ℕ, zero, suc, _+_, min}
 use lib.Dec.{ltb, eqb}
+use lib.ListN.{length}
 use Rattle.std.specs.declared.option.Option.{Option}
 use Rattle.std.specs.declared.option.Option.the-variants.{None, Some}
+use Rattle.std.specs.declared.result.Result.{Result}
+use Rattle.std.specs.declared.result.Result.the-variants.{Ok, Err}
+use Rattle.buffers.specs.Over.{over}
+use Rattle.meaning.specs.declared.reduction.Reduced.{Reduced}
 use Rattle.meaning.specs.declared.reduction.End.{End}
 use Rattle.meaning.specs.declared.reduction.End.the-variants.{Passes, Ended, Spent}
 use Rattle.meaning.specs.declared.reduction.ReduceFault.{ReduceFault}
@@ -101,3 +109,32 @@ reduction t fails (suc n) first result s =
 
 abbrev pub refusal : {S I : Type 0} → Steps S I → (budget room : ℕ) → S → Option ReduceFault
 refusal t budget room s = cond (ltb room (t .longest s)) (Some TooShort) (cond (eqb budget 0) (Some NoBudget) (cond (t .grown s) None (Some Blank)))
+
+abbrev pub copy-of : {I : Type 0} → Happening I → List I → List I → List I
+copy-of (simplify answer) c buffer = buffer
+copy-of (complicate answer) c buffer = buffer
+copy-of reading c buffer = buffer
+copy-of (verdict failed) c buffer = cond failed (over c buffer) buffer
+copy-of (refused fault) c buffer = buffer
+copy-of (start budget) c buffer = buffer
+copy-of (report r) c buffer = buffer
+
+abbrev pub copied : {S I : Type 0} → Steps S I → List (Event S I) → List I → List I
+copied t [] buffer = buffer
+copied t (e ∷ h) buffer = copied t h (copy-of (e .what) (t .candidate (e .before)) buffer)
+
+pub record Done (S I : Type 0) : Type 0 where
+  pub answer : Result Reduced ReduceFault
+  pub tree : S
+  pub buffer : List I
+
+-- a reduction after so many verdicts made before it; the length told is that of the result, as far as the buffer goes
+abbrev pub done-after : {S I : Type 0} → Steps S I → ℕ → Reduction S I → List I → Done S I
+done-after t made r buffer = record { answer = Ok (record { end = r .end; verdicts = made + verdicts (r .own); length = min (length (r .result)) (length buffer) }); tree = r .left; buffer = copied t (r .own) buffer }
+
+abbrev pub by-refusal : {S I : Type 0} → Option ReduceFault → S → List I → Done S I → Done S I
+by-refusal (Some fault) s buffer done = record { answer = Err fault; tree = s; buffer = buffer }
+by-refusal None s buffer done = done
+
+abbrev pub reduces : {S I : Type 0} → Steps S I → (List I → Bool) → ℕ → S → List I → Done S I
+reduces t fails budget s buffer = by-refusal (refusal t budget (length buffer) s) s buffer (done-after t 0 (reduction t fails budget true [] s) buffer)

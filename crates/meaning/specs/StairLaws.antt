@@ -67,4 +67,5 @@ pub stair-roots : {P : Type 0} (limit : P → ℕ) → Roots stair-steps (λ s. 
 stair-roots limit = unless-roots stair-steps Any (λ p s. false) (stair-growth limit) (λ p. 1)
     (λ p X w r s enough. stair-grew s (advanced w r) (drawn 0 (limit p) (word w (r .source))))
     (λ p q X w r s enough. refl)
+    (λ q s. refl)
     (λ p X w r s enough. stair-calm s (advanced w r) (drawn 0 (limit p) (word w (r .source))))

@@ -31,3 +31,12 @@ impl ReduceFault {
         }
     }
 }
+
+// What a reduction answers: how it came to its end, how many verdicts it made, and how many items its result has, 0 where no
+// list failed.
+#[derive(Clone, Copy)]
+pub struct Reduced {
+    pub end: End,
+    pub verdicts: u32,
+    pub length: usize,
+}

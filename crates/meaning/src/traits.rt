@@ -1,5 +1,6 @@
 ghost use mathlib.Core.Path.{_≡_};
 ghost use mathlib.Core.Bool.{Bool};
+ghost use mathlib.Core.List.{List};
 ghost use Prim.Native.Nat.{ℕ, min};
 ghost use lib.ListN.{length};
 ghost use Rattle.buffers.specs.Over.{over};
@@ -139,6 +140,14 @@ pub trait Strategy: Sized {
         place: &mut Self::Tree,
     ) -> Result<(), GrowFault>
         ensures { λ r. ⌜ record { answer = r; runner = run (D·Source .state) (now (runner .exit)); place = Tree·ValueTree .state (now (place .exit)) } ≡ Tree·ValueTree .grows (now (self .entry)) (D·Source .State) (D·Source .words) (run (D·Source .state) (now (runner .entry))) (Tree·ValueTree .state (now (place .entry))) ⌝ };
+}
+
+// A verdict on a list of items: whether it fails. It is a fixed function of the list, which is read without copying it out.
+pub trait Verdict<I> {
+    ghost judges: { Self → List I → Bool };
+
+    fn fails<T: ValueTree<Item = I>>(&self, tree: &T) -> bool
+        ensures { λ r. ⌜ r ≡ judges (now (self .entry)) (T·ValueTree .steps .candidate (T·ValueTree .state (now (tree .entry)))) ⌝ };
 }
 
 // Grows a tree into `place`, as `new_tree` does, with the promise over whole runs: where growth is accepted, every list of steps,
