@@ -1,5 +1,5 @@
 ghost use mathlib.Core.Path.{_≡_};
-ghost use Rattle.reduction.specs.Verdicts.{holds, more-than};
+ghost use Rattle.reduction.specs.Verdicts.{numbered, holds, more-than};
 
 use meaning::traits::ValueTree;
 use meaning::traits::Verdict;
@@ -19,18 +19,15 @@ impl Holds {
 }
 
 pub impl Verdict<u64> for Holds as HoldsVerdict {
-    ghost judges = { λ v xs. holds (v .number) xs };
+    ghost judges = { λ v xs. holds (v .number) (numbered xs) };
 
     fn fails<T: ValueTree<Item = u64>>(&self, tree: &T) -> bool {
-        let mut i: usize = 0;
-        while let Some(x) = tree.item(i) {
-            if x == self.number {
-                return true;
+        for i in 0..tree.len() {
+            if let Some(x) = tree.item(i) {
+                if x == self.number {
+                    return true;
+                }
             }
-            if i == usize::MAX {
-                return false;
-            }
-            i += 1;
         }
         false
     }
