@@ -6,7 +6,7 @@ use mathlib.Core.Bool.{Bool, true, false, cond, false≢true}
 use Prim.Native.Nat.{ℕ, zero, suc, _≤_, _<_}
 use native.Mathlib.Nat.{le-refl}
 use native.Mathlib.Omega.{arith}
-use lib.ListN.{length, getD, set, drop}
+use lib.ListN.{length, getD, set, drop, replicate}
 use lib.Seq.{set-set, set-getD}
 use Rattle.meaning.specs.Vectors.{members, all-of}
 
@@ -23,6 +23,26 @@ pub members-no-less : (bs : List Bool) (i : ℕ) → members bs ≤ members (set
 members-no-less [] i = le-refl 0
 members-no-less (b ∷ bs) zero = let one = at-most-one b in omega arith
 members-no-less (b ∷ bs) (suc i) = let rest = members-no-less bs i in omega arith
+
+-- a new member is one more
+pub members-more : (bs : List Bool) (i : ℕ) → i < length bs → getD bs i false ≡ false → members (set bs i true) ≡ suc (members bs)
+members-more [] i below none = absurd (omega (arith, below))
+members-more (b ∷ bs) zero below none = rw none (omega arith)
+members-more (b ∷ bs) (suc i) below none = let rest = members-more bs i (omega (arith, below)) none in omega arith
+
+pub members-at-most-more : (bs : List Bool) (i : ℕ) → members (set bs i true) ≤ suc (members bs)
+members-at-most-more [] i = omega arith
+members-at-most-more (b ∷ bs) zero = omega arith
+members-at-most-more (b ∷ bs) (suc i) = let rest = members-at-most-more bs i in omega arith
+
+pub no-members : (n : ℕ) → members (replicate n false) ≡ 0
+no-members zero = refl
+no-members (suc n) = let rest = no-members n in omega arith
+
+pub none-there : (n i : ℕ) → getD (replicate n false) i false ≡ false
+none-there zero i = refl
+none-there (suc n) zero = refl
+none-there (suc n) (suc i) = none-there n i
 
 pub still-member : (bs : List Bool) (i j : ℕ) → getD bs j false ≡ true → getD (set bs i true) j false ≡ true
 still-member [] i j member = member

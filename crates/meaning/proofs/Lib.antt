@@ -1,5 +1,6 @@
 mod Growing
 mod Included
+mod Drawing
 mod Joining
 mod Walking
 pub mod SliceLaws
@@ -22,5 +23,26 @@ pub mod SifterLaws
 pub mod FilterLaws
 pub mod FilterMapLaws
 mod WrapExamples
+pub mod FirstMember
+pub mod SetSteps
+pub mod SetShown
+mod SetGrowth
+pub mod BitSetGrowth
+pub mod RangeSubsetGrowth
+mod SetExamples
+pub mod LazyOptions
+pub mod SliceOptionLaws
+pub mod PairOptionLaws
+mod Picking
+pub mod UnionSteps
+pub mod UnionGrowth
+pub mod SliceUnion
+mod UnionExamples
+mod PairUnionExamples
+mod ShutFuses
+pub mod FlattenEnds
+pub mod FlattenSteps
+pub mod FlattenGrowth
+mod FlattenExamples
 pub mod Promising
 pub mod Piling

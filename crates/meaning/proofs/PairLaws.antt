@@ -33,7 +33,7 @@ module _ {W S I : Type 0} (part : Part W S) (t : Steps S I) where
     abbrev part-sound : W → Type 0
     part-sound w = sound (part .get w)
 
-    part-rooted : (w : W) → Rooted t sound (part .get w) → Rooted (part-steps part t) part-sound w
+    pub part-rooted : (w : W) → Rooted t sound (part .get w) → Rooted (part-steps part t) part-sound w
     part-rooted w rooted = record { is-sound = rooted .is-sound; is-grown = rooted .is-grown; at-home = rooted .at-home; no-back = rooted .no-back }
 
     part-apart : (before now : W) → Apart t sound (part .get before) (part .get now) → Apart (part-steps part t) part-sound before now
@@ -96,11 +96,11 @@ pair-total {table = table} total totals (suc i) = part-total rest-part (table i)
 
 module _ {S T I : Type 0} (t : Steps S I) (table : ℕ → Steps T I) (sound : S → Type 0) (sounds : ℕ → T → Type 0) where
   -- what a call on number i leaves as it was: the rest; or the first, and every other tree of the rest
-  abbrev Untouched : ℕ → Pair S T → Pair S T → Type 0
+  abbrev pub Untouched : ℕ → Pair S T → Pair S T → Type 0
   Untouched zero before now = now .rest ≡ before .rest
   Untouched (suc i) before now = (now .first ≡ before .first) × ((j : ℕ) → (j ≡ i → ⊥) → Apart (table j) (sounds j) (before .rest) (now .rest))
 
-  untouched-apart : (i j : ℕ) → (j ≡ i → ⊥) → (before now : Pair S T) → Untouched i before now → Apart (pair-table t table j) (pair-sound sound sounds j) before now
+  pub untouched-apart : (i j : ℕ) → (j ≡ i → ⊥) → (before now : Pair S T) → Untouched i before now → Apart (pair-table t table j) (pair-sound sound sounds j) before now
   untouched-apart zero zero other before now same = absurd (other refl)
   untouched-apart zero (suc j) other before now same = part-apart rest-part (table j) (sounds j) before now (same-apart (table j) (sounds j) same)
   untouched-apart (suc i) zero other before now same = part-apart first-part t sound before now (same-apart t sound (same .0))

@@ -75,7 +75,7 @@ module _ {S : Type 0} (change : S → S) where
   slot-apart P (suc i) zero other (x ∷ xs) here = here
   slot-apart P (suc i) (suc j) other (x ∷ xs) here = slot-apart P i j (λ e. other (ap suc e)) xs here
 
-  slice-apart : {I : Type 0} (t : Steps S I) (sound : S → Type 0) (i j : ℕ) → (j ≡ i → ⊥) → (xs : List S) → Apart (slice-table t j) (Slot sound j) xs (change-at change xs i)
+  pub slice-apart : {I : Type 0} (t : Steps S I) (sound : S → Type 0) (i j : ℕ) → (j ≡ i → ⊥) → (xs : List S) → Apart (slice-table t j) (Slot sound j) xs (change-at change xs i)
   slice-apart t sound i j other xs = record {
     same-meant = λ k. record { candidate = at-apart (t .candidate) [] i j other xs k; home = at-apart (t .home) [] i j other xs k; back = at-apart (t .back) 0 i j other xs k };
     same-longest = at-apart (t .longest) 0 i j other xs;
@@ -109,12 +109,12 @@ module _ {S I : Type 0} {t : Steps S I} {sound : S → Type 0} (keeps : Keeps t 
 
 -- growing in one slot
 module _ {X S : Type 0} (g : Grows X S) where
-  grow-at-place : (i : ℕ) (r : RunnerState X) (xs : List S) → grow-at g i r xs .place ≡ change-at (λ x. g r x .place) xs i
+  pub grow-at-place : (i : ℕ) (r : RunnerState X) (xs : List S) → grow-at g i r xs .place ≡ change-at (λ x. g r x .place) xs i
   grow-at-place i r [] = refl
   grow-at-place zero r (x ∷ xs) = refl
   grow-at-place (suc i) r (x ∷ xs) = ap (λ (ys : List S). x ∷ ys) (grow-at-place i r xs)
 
-  grow-at-calm : ((r : RunnerState X) (x : S) → g r x .runner .rejections ≤ r .rejections) → (i : ℕ) (r : RunnerState X) (xs : List S) → grow-at g i r xs .runner .rejections ≤ r .rejections
+  pub grow-at-calm : ((r : RunnerState X) (x : S) → g r x .runner .rejections ≤ r .rejections) → (i : ℕ) (r : RunnerState X) (xs : List S) → grow-at g i r xs .runner .rejections ≤ r .rejections
   grow-at-calm calm i r [] = le-refl (r .rejections)
   grow-at-calm calm zero r (x ∷ xs) = calm r x
   grow-at-calm calm (suc i) r (x ∷ xs) = grow-at-calm calm i r xs
@@ -133,7 +133,7 @@ module _ {X S : Type 0} (g : Grows X S) where
   grow-at-untold short untold (suc n) (suc i) below r (x ∷ xs) fault enough e = grow-at-untold short untold n i (omega (arith, below)) r xs fault (neither (short x) (lacking short n xs) enough .1) e
 
   module _ {I : Type 0} (t : Steps S I) (sound : S → Type 0) (longest : ℕ) where
-    abbrev Accepted : {S : Type 0} → Steps S I → (S → Type 0) → S → Type 0
+    abbrev pub Accepted : {S : Type 0} → Steps S I → (S → Type 0) → S → Type 0
     Accepted t sound s = Rooted t sound s × (t .longest s ≡ longest)
 
     accepted-here : (x : S) (xs : List S) → Accepted t sound x → Accepted (slice-table t 0) (Slot sound 0) (x ∷ xs)
@@ -142,7 +142,7 @@ module _ {X S : Type 0} (g : Grows X S) where
     accepted-later : (i : ℕ) (x : S) (xs : List S) → Accepted (slice-table t i) (Slot sound i) xs → Accepted (slice-table t (suc i)) (Slot sound (suc i)) (x ∷ xs)
     accepted-later i x xs (root, states) = (record { is-sound = root .is-sound; is-grown = root .is-grown; at-home = root .at-home; no-back = root .no-back }, states)
 
-    grow-at-accepted : ((r : RunnerState X) (x : S) → g r x .answer ≡ Ok tt → Accepted t sound (g r x .place)) →
+    pub grow-at-accepted : ((r : RunnerState X) (x : S) → g r x .answer ≡ Ok tt → Accepted t sound (g r x .place)) →
         (i : ℕ) (r : RunnerState X) (xs : List S) → grow-at g i r xs .answer ≡ Ok tt → Accepted (slice-table t i) (Slot sound i) (grow-at g i r xs .place)
     grow-at-accepted accepted i r [] e = absurd (accepted-is-no-fault (sym e))
     grow-at-accepted accepted zero r (x ∷ xs) e = accepted-here (g r x .place) xs (accepted r x e)

@@ -26,19 +26,9 @@ use Rattle.meaning.specs.Tables.{TableGrowth}
 use Rattle.meaning.specs.TableLaws.{TableRoots}
 use Rattle.meaning.specs.Vectors.{all-of, VecTree, vec-steps, grow-from, vec-grown, vec-sized, most-items, vec-stated, vec-short, vec-growth}
 use Rattle.meaning.specs.VectorLaws.{vec-sound}
+use Rattle.meaning.proofs.Drawing.{drawn-range}
 use Rattle.meaning.proofs.Growing.{Given}
 use Rattle.meaning.proofs.Elements.{slots-and-room, Elements, all-sound, Kept, unchanged, Done, Failed, elements-given}
-
--- a drawn size lies in its range
-within-range : (low high word : ℕ) → low ≤ high → high ≤ 256 → (low ≤ within low high word) × (within low high word ≤ high)
-within-range low high word ordered few =
-    let narrow : high - low < 2 ^ 64 - 1 = omega arith in
-    let rest = mod-lt word {m = high - low + 1} (omega arith) in
-    rw (lt-ltb (high - low) (2 ^ 64 - 1) narrow) (omega (arith, rest), omega (arith, rest))
-
-drawn-range : (low high : ℕ) → low ≤ high → high ≤ 256 → (word : Option ℕ) (n : ℕ) → drawn low high word ≡ Ok n → (low ≤ n) × (n ≤ high)
-drawn-range low high ordered few None n e = let clash : _≡_ {A = ℕ} 0 1 = cc in absurd (omega arith)
-drawn-range low high ordered few (Some word) n e = let size : within low high word ≡ n = cc in rw size at (within-range low high word ordered few)
 
 rises : (f : ℕ → ℕ) → ((n : ℕ) → f n ≤ f (suc n)) → (more n m : ℕ) → n + more ≡ m → f n ≤ f m
 rises f rising zero n m e = let same : f n ≡ f m = ap f (omega arith) in omega arith
@@ -92,4 +82,4 @@ vec-roots {T} {I} {P} {Q} {table} {sound} {short} {g} {stated} under low high si
     given q X w r v enough =
         let (slots, room) = slots-and-room (short (under q)) (stated (under q)) (high q) (v .tree .elements) enough in
         sized-given roots (under q) X w (low q) (high q) (longest q) room (advanced w r) (v .tree) slots
-        (drawn (low q) (high q) (word w (r .source))) (drawn-range (low q) (high q) (sizes q .0) (sizes q .1) (word w (r .source)))
+        (drawn (low q) (high q) (word w (r .source))) (drawn-range (low q) (high q) (sizes q .0) (let few = sizes q .1 in omega (arith, few)) (word w (r .source)))

@@ -193,7 +193,7 @@ module _ {T I : Type 0} (table : ℕ → Steps T I) (sound : ℕ → T → Type 
     }
 
 -- trees that are sound and grown stay so
-keeps-standing : {S I : Type 0} {t : Steps S I} {sound : S → Type 0} → Total t → Keeps t sound → Keeps t (Standing t sound)
+pub keeps-standing : {S I : Type 0} {t : Steps S I} {sound : S → Type 0} → Total t → Keeps t sound → Keeps t (Standing t sound)
 keeps-standing total keeps = record {
   fits = λ s standing. keeps .fits s (standing .0);
   simplify = λ s standing. let kept = keeps .simplify s (standing .0) in ((kept .0, total .simplify-grown s ∙ standing .1), kept .1, kept .2);

@@ -71,7 +71,7 @@ module _ {T I : Type 0} (table : ℕ → Steps T I) (sound : ℕ → T → Type 
       }
 
   module _ (keeps : TableKeeps table sound) where
-    simplify-touched : (i : ℕ) (s : T) → sound i s → Touched i s (table i .simplify s .tree)
+    pub simplify-touched : (i : ℕ) (s : T) → sound i s → Touched i s (table i .simplify s .tree)
     simplify-touched i s is-sound = let kept = keeps .each i .simplify s is-sound in record { still-sound = λ _. kept .0; same-longest = kept .2; apart = λ j other. keeps .simplify-apart i j other s }
 
     pub complicate-touched : (i : ℕ) (s : T) → sound i s → Touched i s (table i .complicate s .tree)
