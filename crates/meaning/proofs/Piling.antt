@@ -25,9 +25,21 @@ use Rattle.meaning.specs.FilterMaps.{given, filter-map-sound}
 use Rattle.meaning.specs.Pairs.{Pair, end-sound, pair-sound}
 use Rattle.meaning.specs.Arrays.{ArrayTree, as-vector, array-sound}
 use Rattle.meaning.specs.Runs.{Call, Promised, history}
-use Rattle.meaning.specs.Piles.{Pile, TablePile, Gives, VecShown, Shown, ShownAt, Promise}
-use Rattle.meaning.specs.Piles.Pile.{leaf, fuse, no-shrink, filter, filter-map, vec, array}
+use Rattle.meaning.specs.Fuses.{FuseTree}
+use Rattle.meaning.specs.SetLaws.{set-sound}
+use Rattle.meaning.specs.Lazies.{Lazy, TableWait}
+use Rattle.meaning.specs.Lazies.Lazy.{uninitialized, initialized, failed}
+use Rattle.meaning.specs.LazyLaws.{Limited, lazy-sound, OptionsKeep, OptionsRoot}
+use Rattle.meaning.specs.SliceOptions.{slice-options-sound}
+use Rattle.meaning.specs.PairOptions.{end-options-sound, pair-options-sound}
+use Rattle.meaning.specs.Unions.{UnionTree}
+use Rattle.meaning.specs.UnionLaws.{UnionSound, union-sound}
+use Rattle.meaning.specs.Flattens.{FlatTree}
+use Rattle.meaning.specs.FlattenLaws.{WayBack, FlatSound, flat-sound}
+use Rattle.meaning.specs.Piles.{Pile, TablePile, OptionPile, Gives, VecShown, LazyShown, UnionShown, KeptShown, FlatShown, Shown, ShownAt, OptionShown, Promise}
+use Rattle.meaning.specs.Piles.Pile.{leaf, fuse, no-shrink, filter, filter-map, vec, array, bits, sampled, subset, union, flatten}
 use Rattle.meaning.specs.Piles.TablePile.{slice, end, pair}
+use Rattle.meaning.specs.Piles.OptionPile.{slice-options, no-options, pair-options}
 use Rattle.meaning.proofs.SliceLaws.{slice-total, slice-keeps, slice-roots}
 use Rattle.meaning.proofs.VectorSteps.{vec-total, vec-keeps}
 use Rattle.meaning.proofs.VectorGrowth.{vec-roots}
@@ -37,6 +49,18 @@ use Rattle.meaning.proofs.FilterLaws.{filter-total, filter-keeps, filter-roots
 use Rattle.meaning.proofs.FilterMapLaws.{filter-map-total, filter-map-keeps, filter-map-roots, filter-map-shows}
 use Rattle.meaning.proofs.PairLaws.{end-total, end-keeps, end-roots, pair-total, pair-keeps, pair-roots}
 use Rattle.meaning.proofs.ArrayLaws.{array-total, array-keeps, array-roots}
+use Rattle.meaning.proofs.SetSteps.{set-total, set-keeps}
+use Rattle.meaning.proofs.SetShown.{set-shows-enough}
+use Rattle.meaning.proofs.BitSetGrowth.{bits-roots, sampled-roots}
+use Rattle.meaning.proofs.RangeSubsetGrowth.{subset-roots}
+use Rattle.meaning.proofs.LazyOptions.{lazy-total}
+use Rattle.meaning.proofs.SliceOptionLaws.{slice-options-keep, slice-options-root}
+use Rattle.meaning.proofs.PairOptionLaws.{end-options-keep, end-options-root, pair-options-keep, pair-options-root}
+use Rattle.meaning.proofs.UnionSteps.{union-total, union-keeps}
+use Rattle.meaning.proofs.UnionGrowth.{union-roots}
+use Rattle.meaning.proofs.FlattenEnds.{flat-total}
+use Rattle.meaning.proofs.FlattenSteps.{flat-keeps}
+use Rattle.meaning.proofs.FlattenGrowth.{flat-roots}
 use Rattle.meaning.proofs.Promising.{promised}
 
 -- when a state of a pile is sound
@@ -49,11 +73,21 @@ abbrev mutual
   Sound (filter-map t short g stated Q under map pile) s = filter-map-sound t (Sound pile) s
   Sound (vec table short g stated Q elements low high sizes pile) s = vec-sound table (SoundAt pile) s
   Sound (array table short g stated Q elements size pile) s = array-sound table (SoundAt pile) s
+  Sound (bits min max size) s = set-sound s
+  Sound (sampled min max size low high can) s = set-sound s
+  Sound (subset start count low high can) s = set-sound s
+  Sound (union table start short g wait stated Q options weights weighed pile) s = union-sound table (OptionSound pile) s
+  Sound (flatten source source-short source-growth source-stated t short g stated Q under chooser keeps source-pile pile) s = flat-sound source t (Sound source-pile) (Sound pile) s
 
   pub SoundAt : {T I E : Type 0} {table : ℕ → Steps T I} {short : E → ℕ → T → Bool} {g : TableGrowth E T} {stated : E → ℕ → ℕ} → TablePile T I E table short g stated → ℕ → T → Type 0
   SoundAt (slice t short g stated E element pile) i xs = Slot (Sound pile) i xs
   SoundAt (end E) i s = end-sound i s
   SoundAt (pair t short g stated table shorts gs stateds E first rest pile piles) i s = pair-sound (Sound pile) (SoundAt piles) i s
+
+  pub OptionSound : {T I E : Type 0} {table : ℕ → Steps T I} {start : ℕ → T → T} {short : E → ℕ → T → Bool} {g : TableGrowth E T} {wait : TableWait E T} {stated : E → ℕ → ℕ} → OptionPile T I E table start short g wait stated → (limit i : ℕ) → T → Type 0
+  OptionSound (slice-options t short g stated E number pile) limit i xs = slice-options-sound t (Sound pile) limit i xs
+  OptionSound (no-options E) limit i s = end-options-sound limit i s
+  OptionSound (pair-options t short g stated table start shorts gs waits stateds E first rest pile piles) limit i s = pair-options-sound t (Sound pile) (OptionSound piles) limit i s
 
 mutual
   pub pile-total : {S I P : Type 0} {t : Steps S I} {short : P → S → Bool} {g : Growth P S} {stated : P → ℕ} → Pile S I P t short g stated → Total t
@@ -64,11 +98,21 @@ mutual
   pile-total (filter-map t short g stated Q under map pile) = filter-map-total (pile-total pile)
   pile-total (vec table short g stated Q elements low high sizes pile) = vec-total (table-total pile)
   pile-total (array table short g stated Q elements size pile) = array-total (table-total pile)
+  pile-total (bits min max size) = set-total
+  pile-total (sampled min max size low high can) = set-total
+  pile-total (subset start count low high can) = set-total
+  pile-total (union table start short g wait stated Q options weights weighed pile) = union-total start (options-total pile)
+  pile-total (flatten source source-short source-growth source-stated t short g stated Q under chooser keeps source-pile pile) = flat-total (pile-total source-pile) (pile-total pile)
 
   table-total : {T I E : Type 0} {table : ℕ → Steps T I} {short : E → ℕ → T → Bool} {g : TableGrowth E T} {stated : E → ℕ → ℕ} → TablePile T I E table short g stated → TableTotal table
   table-total (slice t short g stated E element pile) = slice-total (pile-total pile)
   table-total (end E) = end-total
   table-total (pair t short g stated table shorts gs stateds E first rest pile piles) = pair-total (pile-total pile) (table-total piles)
+
+  options-total : {T I E : Type 0} {table : ℕ → Steps T I} {start : ℕ → T → T} {short : E → ℕ → T → Bool} {g : TableGrowth E T} {wait : TableWait E T} {stated : E → ℕ → ℕ} → OptionPile T I E table start short g wait stated → TableTotal table
+  options-total (slice-options t short g stated E number pile) = slice-total (lazy-total (pile-total pile))
+  options-total (no-options E) = end-total
+  options-total (pair-options t short g stated table start shorts gs waits stateds E first rest pile piles) = pair-total (lazy-total (pile-total pile)) (options-total piles)
 
 mutual
   pub pile-keeps : {S I P : Type 0} {t : Steps S I} {short : P → S → Bool} {g : Growth P S} {stated : P → ℕ} (pile : Pile S I P t short g stated) → Keeps t (Sound pile)
@@ -79,11 +123,21 @@ mutual
   pile-keeps (filter-map t short g stated Q under map pile) = filter-map-keeps (pile-total pile) (pile-keeps pile)
   pile-keeps (vec table short g stated Q elements low high sizes pile) = vec-keeps (table-total pile) (table-keeps pile)
   pile-keeps (array table short g stated Q elements size pile) = array-keeps (table-total pile) (table-keeps pile)
+  pile-keeps (bits min max size) = set-keeps
+  pile-keeps (sampled min max size low high can) = set-keeps
+  pile-keeps (subset start count low high can) = set-keeps
+  pile-keeps (union table start short g wait stated Q options weights weighed pile) = union-keeps (options-total pile) (options-keep pile)
+  pile-keeps (flatten source source-short source-growth source-stated t short g stated Q under chooser keeps source-pile pile) = flat-keeps (pile-total source-pile) (pile-total pile) (pile-keeps source-pile) (pile-keeps pile)
 
   table-keeps : {T I E : Type 0} {table : ℕ → Steps T I} {short : E → ℕ → T → Bool} {g : TableGrowth E T} {stated : E → ℕ → ℕ} (pile : TablePile T I E table short g stated) → TableKeeps table (SoundAt pile)
   table-keeps (slice t short g stated E element pile) = slice-keeps (pile-keeps pile)
   table-keeps (end E) = end-keeps
   table-keeps (pair t short g stated table shorts gs stateds E first rest pile piles) = pair-keeps (pile-keeps pile) (table-keeps piles)
+
+  options-keep : {T I E : Type 0} {table : ℕ → Steps T I} {start : ℕ → T → T} {short : E → ℕ → T → Bool} {g : TableGrowth E T} {wait : TableWait E T} {stated : E → ℕ → ℕ} (pile : OptionPile T I E table start short g wait stated) → OptionsKeep table start (OptionSound pile)
+  options-keep (slice-options t short g stated E number pile) = slice-options-keep (pile-keeps pile)
+  options-keep (no-options E) = end-options-keep
+  options-keep (pair-options t short g stated table start shorts gs waits stateds E first rest pile piles) = pair-options-keep (pile-keeps pile) (options-keep piles)
 
 mutual
   pub pile-roots : {S I P : Type 0} {t : Steps S I} {short : P → S → Bool} {g : Growth P S} {stated : P → ℕ} (pile : Pile S I P t short g stated) → Roots t (Sound pile) short g stated
@@ -94,11 +148,21 @@ mutual
   pile-roots (filter-map t short g stated Q under map pile) = filter-map-roots under map (pile-total pile) (pile-roots pile)
   pile-roots (vec table short g stated Q elements low high sizes pile) = vec-roots elements low high sizes (table-roots pile)
   pile-roots (array table short g stated Q elements size pile) = array-roots elements size (table-roots pile)
+  pile-roots (bits min max size) = bits-roots min max size
+  pile-roots (sampled min max size low high can) = sampled-roots min max size low high can
+  pile-roots (subset start count low high can) = subset-roots start count low high can
+  pile-roots (union table start short g wait stated Q options weights weighed pile) = union-roots start options weights weighed (options-root pile)
+  pile-roots (flatten source source-short source-growth source-stated t short g stated Q under chooser keeps source-pile pile) = flat-roots under chooser keeps (pile-roots source-pile) (pile-roots pile)
 
   table-roots : {T I E : Type 0} {table : ℕ → Steps T I} {short : E → ℕ → T → Bool} {g : TableGrowth E T} {stated : E → ℕ → ℕ} (pile : TablePile T I E table short g stated) → TableRoots table (SoundAt pile) short g stated
   table-roots (slice t short g stated E element pile) = slice-roots element (pile-roots pile)
   table-roots (end E) = end-roots
   table-roots (pair t short g stated table shorts gs stateds E first rest pile piles) = pair-roots first rest (pile-roots pile) (table-roots piles)
+
+  options-root : {T I E : Type 0} {table : ℕ → Steps T I} {start : ℕ → T → T} {short : E → ℕ → T → Bool} {g : TableGrowth E T} {wait : TableWait E T} {stated : E → ℕ → ℕ} (pile : OptionPile T I E table start short g wait stated) → OptionsRoot table (OptionSound pile) short g wait stated
+  options-root (slice-options t short g stated E number pile) = slice-options-root number (pile-roots pile)
+  options-root (no-options E) = end-options-root
+  options-root (pair-options t short g stated table start shorts gs waits stateds E first rest pile piles) = pair-options-root first rest (pile-roots pile) (options-root piles)
 
 -- a sound state shows what each layer is to show
 grown-tells : {B : Type 0} (P Q : B → Type 0) → ((b : B) → P b → Q b) → (p : Place B) → WhereGrown P p → WhereGrown Q p
@@ -124,21 +188,55 @@ map-tells : {J : Type 0} (o : Option J) (shown : List J) → isSome o ≡ true �
 map-tells None shown some e = absurd (false≢true some)
 map-tells (Some item) shown some e = e
 
-mutual
-  pub sound-shows : {S I P : Type 0} {t : Steps S I} {short : P → S → Bool} {g : Growth P S} {stated : P → ℕ} (pile : Pile S I P t short g stated) (s : S) → Sound pile s → Shown pile s
-  sound-shows (leaf t short g stated sound total keeps roots) s h = tt
-  sound-shows (fuse t short g stated Q under pile) s h = sound-shows pile (s .inner) h
-  sound-shows (no-shrink t short g stated Q under pile) s h = sound-shows pile s h
-  sound-shows (filter t short g stated Q under rule pile) s h = (λ grown. h .candidate, sound-shows pile (s .source) (h .is-sound))
-  sound-shows (filter-map t short g stated Q under map pile) s h = (λ grown. map-tells (s .fun (t .candidate (s .source))) _ (h .candidate) (filter-map-shows t (Sound pile) s h grown .0), sound-shows pile (s .source) (h .is-sound))
-  sound-shows (vec table short g stated Q elements low high sizes pile) s h = grown-tells (VecSound table (λ i. Standing (table i) (SoundAt pile i))) (VecShown (ShownAt pile)) (vec-tells (sound-shows-at pile)) s h
-  sound-shows (array table short g stated Q elements size pile) s h = grown-tells (λ a. VecSound table (λ i. Standing (table i) (SoundAt pile i)) (as-vector a)) (λ a. VecShown (ShownAt pile) (as-vector a)) (λ a. vec-tells (sound-shows-at pile) (as-vector a)) s h
+lazy-tells : {S I : Type 0} (t : Steps S I) {P Q : S → Type 0} → ((s : S) → P s → Q s) → (limit : ℕ) (x : Lazy S) → lazy-sound (Limited t P limit) x → LazyShown Q x
+lazy-tells t f limit (uninitialized s later) h = tt
+lazy-tells t f limit (initialized s) h = f s (h .0)
+lazy-tells t f limit (failed s) h = tt
 
-  sound-shows-at : {T I E : Type 0} {table : ℕ → Steps T I} {short : E → ℕ → T → Bool} {g : TableGrowth E T} {stated : E → ℕ → ℕ} (pile : TablePile T I E table short g stated) (i : ℕ) (s : T) → SoundAt pile i s → ShownAt pile i s
-  sound-shows-at (slice t short g stated E element pile) i xs h = slot-tells (sound-shows pile) i xs h
-  sound-shows-at (end E) i s h = h
-  sound-shows-at (pair t short g stated table shorts gs stateds E first rest pile piles) i s h = pair-tells (sound-shows pile) (sound-shows-at piles) i s h
+union-tells : {T I : Type 0} {table : ℕ → Steps T I} {sounds : ℕ → ℕ → T → Type 0} {shows : ℕ → T → Type 0} → ((limit i : ℕ) (s : T) → sounds limit i s → shows i s) → (u : UnionTree T) → UnionSound table sounds u → UnionShown shows u
+union-tells f u h = λ i l. f (u .longest) i (u .options) (h .each i l)
+
+kept-tells : {M S J I : Type 0} (t : Steps S I) {P Q : S → Type 0} → ((s : S) → P s → Q s) → (x : FlatTree M S J) (final : Option (FuseTree S)) → WayBack t (Standing t P) x final → KeptShown Q final
+kept-tells t f x None h = tt
+kept-tells t f x (Some final) h = f (final .inner) (h .0 .0 .0)
+
+flat-tells : {M S J I : Type 0} (source : Steps M J) (t : Steps S I) {P Q : S → Type 0} {source-sound source-shows : M → Type 0} → ((s : M) → source-sound s → source-shows s) → ((s : S) → P s → Q s) → (x : FlatTree M S J) → FlatSound t (Standing t P) (Standing source source-sound) x → FlatShown source-shows Q x
+flat-tells source t source-tells tells x h = (source-tells (x .meta .inner) (h .source .0), tells (x .current .inner) (h .current .0 .0), kept-tells t tells x (x .final-complication) (h .way-back))
+
+record Shows {S I P : Type 0} {t : Steps S I} {short : P → S → Bool} {g : Growth P S} {stated : P → ℕ} (pile : Pile S I P t short g stated) : Type 0 where
+  tells : (s : S) → Sound pile s → Shown pile s
+
+record ShowsAt {T I E : Type 0} {table : ℕ → Steps T I} {short : E → ℕ → T → Bool} {g : TableGrowth E T} {stated : E → ℕ → ℕ} (pile : TablePile T I E table short g stated) : Type 0 where
+  tells : (i : ℕ) (s : T) → SoundAt pile i s → ShownAt pile i s
+
+record OptionsShow {T I E : Type 0} {table : ℕ → Steps T I} {start : ℕ → T → T} {short : E → ℕ → T → Bool} {g : TableGrowth E T} {wait : TableWait E T} {stated : E → ℕ → ℕ} (pile : OptionPile T I E table start short g wait stated) : Type 0 where
+  tells : (limit i : ℕ) (s : T) → OptionSound pile limit i s → OptionShown pile i s
+
+mutual
+  sound-shows : {S I P : Type 0} {t : Steps S I} {short : P → S → Bool} {g : Growth P S} {stated : P → ℕ} (pile : Pile S I P t short g stated) → Shows pile
+  sound-shows (leaf t short g stated sound total keeps roots) = record { tells = λ s h. tt }
+  sound-shows (fuse t short g stated Q under pile) = record { tells = λ s h. sound-shows pile .tells (s .inner) h }
+  sound-shows (no-shrink t short g stated Q under pile) = record { tells = λ s h. sound-shows pile .tells s h }
+  sound-shows (filter t short g stated Q under rule pile) = record { tells = λ s h. (λ grown. h .candidate, sound-shows pile .tells (s .source) (h .is-sound)) }
+  sound-shows (filter-map t short g stated Q under map pile) = record { tells = λ s h. (λ grown. map-tells (s .fun (t .candidate (s .source))) _ (h .candidate) (filter-map-shows t (Sound pile) s h grown .0), sound-shows pile .tells (s .source) (h .is-sound)) }
+  sound-shows (vec table short g stated Q elements low high sizes pile) = record { tells = λ s h. grown-tells (VecSound table (λ i. Standing (table i) (SoundAt pile i))) (VecShown (ShownAt pile)) (vec-tells (sound-shows-at pile .tells)) s h }
+  sound-shows (array table short g stated Q elements size pile) = record { tells = λ s h. grown-tells (λ a. VecSound table (λ i. Standing (table i) (SoundAt pile i)) (as-vector a)) (λ a. VecShown (ShownAt pile) (as-vector a)) (λ a. vec-tells (sound-shows-at pile .tells) (as-vector a)) s h }
+  sound-shows (bits min max size) = record { tells = λ s h. tt }
+  sound-shows (sampled min max size low high can) = record { tells = λ s h. λ grown. set-shows-enough s grown h }
+  sound-shows (subset start count low high can) = record { tells = λ s h. λ grown. set-shows-enough s grown h }
+  sound-shows (union table start short g wait stated Q options weights weighed pile) = record { tells = λ s h. grown-tells (UnionSound table (OptionSound pile)) (UnionShown (OptionShown pile)) (union-tells (options-show pile .tells)) s h }
+  sound-shows (flatten source source-short source-growth source-stated t short g stated Q under chooser keeps source-pile pile) = record { tells = λ s h. grown-tells (FlatSound t (Standing t (Sound pile)) (Standing source (Sound source-pile))) (FlatShown (Shown source-pile) (Shown pile)) (flat-tells source t (sound-shows source-pile .tells) (sound-shows pile .tells)) s h }
+
+  sound-shows-at : {T I E : Type 0} {table : ℕ → Steps T I} {short : E → ℕ → T → Bool} {g : TableGrowth E T} {stated : E → ℕ → ℕ} (pile : TablePile T I E table short g stated) → ShowsAt pile
+  sound-shows-at (slice t short g stated E element pile) = record { tells = λ i xs h. slot-tells (sound-shows pile .tells) i xs h }
+  sound-shows-at (end E) = record { tells = λ i s h. h }
+  sound-shows-at (pair t short g stated table shorts gs stateds E first rest pile piles) = record { tells = λ i s h. pair-tells (sound-shows pile .tells) (sound-shows-at piles .tells) i s h }
+
+  options-show : {T I E : Type 0} {table : ℕ → Steps T I} {start : ℕ → T → T} {short : E → ℕ → T → Bool} {g : TableGrowth E T} {wait : TableWait E T} {stated : E → ℕ → ℕ} (pile : OptionPile T I E table start short g wait stated) → OptionsShow pile
+  options-show (slice-options t short g stated E number pile) = record { tells = λ limit i xs h. slot-tells (lazy-tells t (sound-shows pile .tells) limit) i xs h }
+  options-show (no-options E) = record { tells = λ limit i s h. h }
+  options-show (pair-options t short g stated table start shorts gs waits stateds E first rest pile piles) = record { tells = λ limit i s h. pair-tells (lazy-tells t (sound-shows pile .tells) limit) (options-show piles .tells limit) i s h }
 
 -- the promise, of every pile
 pub promise : {S I P : Type 0} {t : Steps S I} {short : P → S → Bool} {g : Growth P S} {stated : P → ℕ} (pile : Pile S I P t short g stated) (p : P) (X : Type 0) (w : Words X) (r : RunnerState X) (s : S) → Promise pile p X w r s
-promise {g = g} pile p X w r s accepted calls = promised (pile-keeps pile) (sound-shows pile) (g p X w r s .place) (pile-roots pile .accepted p X w r s accepted .0 .is-sound) calls
+promise {g = g} pile p X w r s accepted calls = promised (pile-keeps pile) (sound-shows pile .tells) (g p X w r s .place) (pile-roots pile .accepted p X w r s accepted .0 .is-sound) calls
