@@ -63,12 +63,18 @@ module _ {M S J I N P Q : Type 0} {source : Steps M J} {t : Steps S I} {source-s
 
       current-given : (m : M) → Standing source source-sound m → (o : Outcome X S) (answer : Grown) → Gives (Fit (o .place)) NotSlots answer → Kept (o .runner .rejections) m (o .place) →
           FlatGiven (current-grown w (offers-of (chooser .choose q) (λ chosen. g chosen X w)) (chooser .longest q) (with-trees x (fresh m) (x .current)) o answer)
-      current-given m standing o (Ok _) fits kept = ((record {
-        is-sound = record { source = standing; current = fits; offers = offers-fit (cloned w (o .runner)); way-back = (refl, refl) };
-        is-grown = refl;
-        at-home = refl;
-        no-back = omega arith;
-      }, refl), kept)
+      current-given m standing o (Ok _) fits kept = (
+        (
+          record {
+            is-sound = record { source = standing; current = fits; offers = offers-fit (cloned w (o .runner)); way-back = (refl, refl) };
+            is-grown = refl;
+            at-home = refl;
+            no-back = omega arith;
+          },
+          refl,
+        ),
+        kept,
+      )
       current-given m standing o (Err fault) not-slots kept = ((not-slots, refl), kept)
 
       chosen-kept : (l : List J) (r′ : RunnerState X) (m : M) → Kept (r′ .rejections) m (x .current .inner) →
@@ -88,8 +94,8 @@ module _ {M S J I N P Q : Type 0} {source : Steps M J} {t : Steps S I} {source-s
           let l = source .candidate (o .place) in
           let chosen = g (chooser .choose q l) X w (o .runner) (x .current .inner) in
           current-given (o .place) standing chosen (chosen .answer)
-              (gives _ _ (chosen .answer) (chosen-fits l (o .runner) (x .current .inner)) (λ fault. roots .untold (chooser .choose q l) X w (o .runner) (x .current .inner) fault (chooser-keeps .agrees q l (x .current .inner) ∙ enough)))
-              (chosen-kept l (o .runner) (o .place) kept)
+          (gives _ _ (chosen .answer) (chosen-fits l (o .runner) (x .current .inner)) (λ fault. roots .untold (chooser .choose q l) X w (o .runner) (x .current .inner) fault (chooser-keeps .agrees q l (x .current .inner) ∙ enough)))
+          (chosen-kept l (o .runner) (o .place) kept)
       source-given enough o (Err fault) not-slots kept = ((not-slots, refl), kept)
 
       flat-given : flat-short under chooser source-short q p ≡ false → FlatGiven (flat-grows source under chooser gm g q X w r p)
@@ -97,8 +103,8 @@ module _ {M S J I N P Q : Type 0} {source : Steps M J} {t : Steps S I} {source-s
           let (source-slots, slots) = neither (source-short (under q) (x .meta .inner)) (chooser .lacks-slots q (x .current .inner)) enough in
           let o = gm (under q) X w r (x .meta .inner) in
           source-given slots o (o .answer)
-              (gives _ _ (o .answer) (λ accepted. let rooted = source-roots .accepted (under q) X w r (x .meta .inner) accepted .0 in (rooted .is-sound, rooted .is-grown)) (λ fault. source-roots .untold (under q) X w r (x .meta .inner) fault source-slots))
-              (record { calm = source-roots .calm (under q) X w r (x .meta .inner); source-lasting = λ n. source-roots .lasting (under q) n X w r (x .meta .inner); lasting = λ other. refl })
+          (gives _ _ (o .answer) (λ accepted. let rooted = source-roots .accepted (under q) X w r (x .meta .inner) accepted .0 in (rooted .is-sound, rooted .is-grown)) (λ fault. source-roots .untold (under q) X w r (x .meta .inner) fault source-slots))
+          (record { calm = source-roots .calm (under q) X w r (x .meta .inner); source-lasting = λ n. source-roots .lasting (under q) n X w r (x .meta .inner); lasting = λ other. refl })
 
   pub flat-roots : Roots (flat-steps source t) (flat-sound source t source-sound sound) (flat-short under chooser source-short) (flat-growth source under chooser source-short gm g) (chooser .longest)
   flat-roots = unless-roots (flat-steps source t) (flat-sound source t source-sound sound) (flat-short under chooser source-short) (flat-grows source under chooser gm g) (chooser .longest)

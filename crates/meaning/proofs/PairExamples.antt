@@ -29,22 +29,22 @@ use Rattle.meaning.proofs.VectorGrowth.{vec-roots}
 use Rattle.meaning.proofs.Examples.{seen, after, on-tape, blank}
 
 -- the vector of one or two stairs, by a strategy of which there is one
-abbrev Stairs : Type 0
+abbrev pub Stairs : Type 0
 Stairs = Place (VecTree (List (Place StairTree)))
 
-abbrev One : Type 0
+abbrev pub One : Type 0
 One = Unit {0}
 
-abbrev stairs-steps : Steps Stairs ℕ
+abbrev pub stairs-steps : Steps Stairs ℕ
 stairs-steps = vec-steps (slice-table stair-steps)
 
-abbrev stairs-short : One → Stairs → Bool
+abbrev pub stairs-short : One → Stairs → Bool
 stairs-short q = vec-short (slice-short (λ q. q) (λ p s. false) q) (slice-stated (λ q. q) (λ p. 1) q) 2
 
-abbrev stairs-growth : Growth One Stairs
+abbrev pub stairs-growth : Growth One Stairs
 stairs-growth = vec-growth {P = One} (λ q. q) (λ q. 1) (λ q. 2) (slice-stated (λ q. q) (λ p. 1)) (slice-short (λ q. q) (λ p s. false)) (slice-growth (λ q. q) (stair-growth (λ p. 5)))
 
-abbrev stairs-stated : One → ℕ
+abbrev pub stairs-stated : One → ℕ
 stairs-stated q = vec-stated (slice-stated (λ q. q) (λ p. 1) q) 2
 
 -- the pairs

@@ -30,26 +30,8 @@ use Rattle.meaning.proofs.PairOptionLaws.{end-options-keep, end-options-root, 
 use Rattle.meaning.proofs.UnionSteps.{union-total, union-keeps}
 use Rattle.meaning.proofs.UnionGrowth.{union-roots}
 use Rattle.meaning.proofs.Examples.{on-tape, blank}
+use Rattle.meaning.proofs.PairExamples.{One, Stairs, stairs-steps, stairs-short, stairs-growth, stairs-stated}
 use Rattle.meaning.proofs.UnionExamples.{Told, told-after, tells}
-
--- every strategy here is the only one of its kind
-abbrev One : Type 0
-One = Unit {0}
-
-abbrev Stairs : Type 0
-Stairs = Place (VecTree (List (Place StairTree)))
-
-abbrev stairs-steps : Steps Stairs ℕ
-stairs-steps = vec-steps (slice-table stair-steps)
-
-abbrev stairs-short : One → Stairs → Bool
-stairs-short q = vec-short (slice-short (λ q. q) (λ p s. false) q) (slice-stated (λ q. q) (λ p. 1) q) 2
-
-abbrev stairs-growth : Growth One Stairs
-stairs-growth = vec-growth {P = One} (λ q. q) (λ q. 1) (λ q. 2) (slice-stated (λ q. q) (λ p. 1)) (slice-short (λ q. q) (λ p s. false)) (slice-growth (λ q. q) (stair-growth (λ p. 5)))
-
-abbrev stairs-stated : One → ℕ
-stairs-stated q = vec-stated (slice-stated (λ q. q) (λ p. 1) q) 2
 
 abbrev stairs-sound : Stairs → Type 0
 stairs-sound = vec-sound (slice-table stair-steps) (Slot (λ s. Unit {0}))

@@ -114,7 +114,7 @@ union-roots {T} {I} {P} {Q} {table} {sound} {short} {grow} {wait} {stated} start
   where
     given : (q : Q) (X : Type 0) (w : Words X) (r : RunnerState X) (u : Place (UnionTree T)) → union-short under weights short q u ≡ false →
         (let o : Outcome X (Place (UnionTree T)) = union-grows under weights stated grow wait q X w r u in
-            Grew (union-steps table start) (union-sound table sound) (union-stated under weights stated q) (o .place) (o .answer) × Kept start roots (under q) X w (advanced w r) (u .tree .options) (o .runner) (o .place .tree .options))
+        Grew (union-steps table start) (union-sound table sound) (union-stated under weights stated q) (o .place) (o .answer) × Kept start roots (under q) X w (advanced w r) (u .tree .options) (o .runner) (o .place .tree .options))
     given q X w r u enough =
         let count = length (weights q) in
         let draw = drawn 0 (sum (weights q) - 1) (word w (r .source)) in

@@ -73,10 +73,10 @@ module _ {S I : Type 0} {t : Steps S I} {fails : List I → Bool} {whole : Done 
         rest = n;
         count = omega (arith, k);
         same =
-          ap (λ (f : Bool). done-after t (made + 1) (judged t f (eqb made 0) (t .candidate s) (l .so-far) s (reduction t fails n false (t .candidate s) (t .simplify s .tree)) (reduction t fails n false (l .so-far) (t .complicate s .tree))) (cond f (over (t .candidate s) b) b)) e
-          ∙ after-verdict t made (fails (t .candidate s)) s (judged t (fails (t .candidate s)) (eqb made 0) (t .candidate s) (l .so-far) s (reduction t fails n false (t .candidate s) (t .simplify s .tree)) (reduction t fails n false (l .so-far) (t .complicate s .tree))) b
-          ∙ q
-        }
+            ap (λ (f : Bool). done-after t (made + 1) (judged t f (eqb made 0) (t .candidate s) (l .so-far) s (reduction t fails n false (t .candidate s) (t .simplify s .tree)) (reduction t fails n false (l .so-far) (t .complicate s .tree))) (cond f (over (t .candidate s) b) b)) e
+            ∙ after-verdict t made (fails (t .candidate s)) s (judged t (fails (t .candidate s)) (eqb made 0) (t .candidate s) (l .so-far) s (reduction t fails n false (t .candidate s) (t .simplify s .tree)) (reduction t fails n false (l .so-far) (t .complicate s .tree))) b
+            ∙ q;
+      }
 
 module _ {S I : Type 0} {t : Steps S I} {fails : List I → Bool} {whole : Done S I} {budget made : ℕ} {so-far : List I} {s : S} {b : List I} where
   -- after a fail: what simplify gave decides
@@ -85,9 +85,9 @@ module _ {S I : Type 0} {t : Steps S I} {fails : List I → Bool} {whole : Done 
 
   pub fail-ended : Judging t fails whole budget made so-far true s b → (n : ℕ) → n ≡ min (length (t .candidate s)) (length b) → (s′ : S) → record { answer = false; tree = s′ } ≡ t .simplify s → (b′ : List I) → b′ ≡ over (t .candidate s) b → over-done Ended (made + 1) n s′ b′ ≡ whole
   fail-ended j n e s′ p b′ q =
-    ap (λ (x : List I). over-done Ended (made + 1) n s′ x) q
-    ∙ same-done Ended _ _ _ _ s′ (over (t .candidate s) b) (omega arith) (e ∙ ap (λ (m : ℕ). min (length (t .candidate s)) m) (sym (length-over (t .candidate s) b)))
-    ∙ failed j (record { answer = false; tree = s′ }) p
+      ap (λ (x : List I). over-done Ended (made + 1) n s′ x) q
+      ∙ same-done Ended _ _ _ _ s′ (over (t .candidate s) b) (omega arith) (e ∙ ap (λ (m : ℕ). min (length (t .candidate s)) m) (sym (length-over (t .candidate s) b)))
+      ∙ failed j (record { answer = false; tree = s′ }) p
 
   pub fail-on : Judging t fails whole budget made so-far true s b → (n : ℕ) → n ≡ min (length (t .candidate s)) (length b) → (s′ : S) → record { answer = true; tree = s′ } ≡ t .simplify s → (b′ : List I) → b′ ≡ over (t .candidate s) b → Looping t fails whole budget (made + 1) n s′ b′
   fail-on j n e s′ p b′ q = record {
@@ -96,11 +96,11 @@ module _ {S I : Type 0} {t : Steps S I} {fails : List I → Bool} {whole : Done 
     count = j .count;
     long = e ∙ ap (λ (m : ℕ). min (length (t .candidate s)) m) (sym (ap length q ∙ length-over (t .candidate s) b));
     same =
-      ap (λ (x : List I). done-after t (made + 1) (reduction t fails (j .rest) (eqb (made + 1) 0) (t .candidate s) s′) x) q
-      ∙ ap (λ (first : Bool). done-after t (made + 1) (reduction t fails (j .rest) first (t .candidate s) s′) (over (t .candidate s) b)) (ne-eqb (made + 1) 0 (λ z. omega (arith, z)))
-      ∙ after-simplify t (made + 1) s (record { answer = true; tree = s′ }) (reduction t fails (j .rest) false (t .candidate s) s′) (over (t .candidate s) b)
-      ∙ failed j (record { answer = true; tree = s′ }) p
-    }
+        ap (λ (x : List I). done-after t (made + 1) (reduction t fails (j .rest) (eqb (made + 1) 0) (t .candidate s) s′) x) q
+        ∙ ap (λ (first : Bool). done-after t (made + 1) (reduction t fails (j .rest) first (t .candidate s) s′) (over (t .candidate s) b)) (ne-eqb (made + 1) 0 (λ z. omega (arith, z)))
+        ∙ after-simplify t (made + 1) s (record { answer = true; tree = s′ }) (reduction t fails (j .rest) false (t .candidate s) s′) (over (t .candidate s) b)
+        ∙ failed j (record { answer = true; tree = s′ }) p;
+  }
 
   -- after a pass: whether it is the first
   passed : (j : Judging t fails whole budget made so-far false s b) (first : Bool) → eqb made 0 ≡ first → done-after t (made + 1) (judged t false first (t .candidate s) so-far s (reduction t fails (j .rest) false (t .candidate s) (t .simplify s .tree)) (reduction t fails (j .rest) false so-far (t .complicate s .tree))) b ≡ whole
@@ -123,7 +123,7 @@ module _ {S I : Type 0} {t : Steps S I} {fails : List I → Bool} {whole : Done 
     count = j .count;
     long = l;
     same =
-      ap (λ (first : Bool). done-after t (made + 1) (reduction t fails (j .rest) first so-far s′) b) (ne-eqb (made + 1) 0 (λ z. omega (arith, z)))
-      ∙ after-complicate t (made + 1) s (record { answer = true; tree = s′ }) (reduction t fails (j .rest) false so-far s′) b
-      ∙ passed-later j e (record { answer = true; tree = s′ }) p
-    }
+        ap (λ (first : Bool). done-after t (made + 1) (reduction t fails (j .rest) first so-far s′) b) (ne-eqb (made + 1) 0 (λ z. omega (arith, z)))
+        ∙ after-complicate t (made + 1) s (record { answer = true; tree = s′ }) (reduction t fails (j .rest) false so-far s′) b
+        ∙ passed-later j e (record { answer = true; tree = s′ }) p;
+  }

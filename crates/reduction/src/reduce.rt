@@ -4,7 +4,6 @@ ghost use mathlib.Core.List.{[]};
 ghost use Prim.Native.Nat.{_<_};
 ghost use Rattle.std.specs.declared.result.Result.the-variants.{Ok};
 ghost use Rattle.meaning.specs.Reductions.{reduction, done-after, reduces};
-
 use meaning::reduction::End;
 use meaning::reduction::ReduceFault;
 use meaning::reduction::Reduced;
@@ -27,15 +26,31 @@ fn reduce_grown<T: ValueTree, V: Verdict<T::Item>>(
         if verdict.fails(tree) {
             length = tree.copy_to(result);
             if !tree.simplify() {
-                return Reduced { end: End::Ended, verdicts, length };
+                return Reduced {
+                    end: End::Ended,
+                    verdicts,
+                    length,
+                };
             }
         } else if verdicts == 1 {
-            return Reduced { end: End::Passes, verdicts, length: 0 };
+            return Reduced {
+                end: End::Passes,
+                verdicts,
+                length: 0,
+            };
         } else if !tree.complicate() {
-            return Reduced { end: End::Ended, verdicts, length };
+            return Reduced {
+                end: End::Ended,
+                verdicts,
+                length,
+            };
         }
     }
-    Reduced { end: End::Spent, verdicts, length }
+    Reduced {
+        end: End::Spent,
+        verdicts,
+        length,
+    }
 }
 
 // Reduces the tree's candidate: as long as it fails it is made simpler, and where it passes more complex again, until no step is

@@ -1,6 +1,5 @@
 ghost use mathlib.Core.Path.{_≡_};
 ghost use Rattle.reduction.specs.Verdicts.{numbered, holds, more-than};
-
 use meaning::traits::ValueTree;
 use meaning::traits::Verdict;
 
