@@ -1,7 +1,7 @@
 -- Numbers, each in decimal after one space, one after another: how long they are and how they are laid down, and then the
 -- whole with its word and its line feed.
 use mathlib.Core.Path.{_≡_, sym, ap, _∙_}
-use mathlib.Core.List.{List, [], _∷_, _++_}
+use mathlib.Core.List.{List, _++_}
 use Prim.Native.Nat.{ℕ, _+_, _<_, _≤_}
 use native.Mathlib.Omega.{arith}
 use lib.Chars.{codes}

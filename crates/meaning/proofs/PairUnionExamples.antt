@@ -10,12 +10,12 @@ use lib.ListN.{replicate}
 use Rattle.draws.specs.Sources.{TapeState, tape-words}
 use Rattle.meaning.specs.Trees.{Steps, Total, Keeps}
 use Rattle.meaning.specs.Places.{Place}
-use Rattle.meaning.specs.Growths.{Outcome, Growth, Roots}
+use Rattle.meaning.specs.Growths.{Outcome, Roots}
 use Rattle.meaning.specs.Stairs.{StairTree, stair-steps, stair-growth}
 use Rattle.meaning.specs.StairLaws.{stair-total, stair-keeps, stair-roots}
-use Rattle.meaning.specs.Tables.{slice-table, TableGrowth, slice-growth, slice-short, slice-stated}
+use Rattle.meaning.specs.Tables.{slice-table, TableGrowth}
 use Rattle.meaning.specs.TableLaws.{Slot}
-use Rattle.meaning.specs.Vectors.{VecTree, vec-blank, vec-steps, vec-short, vec-stated, vec-growth}
+use Rattle.meaning.specs.Vectors.{vec-blank}
 use Rattle.meaning.specs.VectorLaws.{vec-sound}
 use Rattle.meaning.specs.Pairs.{Pair, no-trees, pair-table, end-growth, pair-growth, end-short, pair-short}
 use Rattle.meaning.specs.Lazies.{Lazy, lazy-steps, lazy-short, lazy-growth, TableWait}

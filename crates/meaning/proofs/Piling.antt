@@ -3,12 +3,10 @@
 use mathlib.Core.Path.{_≡_}
 use mathlib.Core.List.{List, [], _∷_}
 use mathlib.Core.Bool.{Bool, true, false, false≢true}
-use Prim.Native.Nat.{ℕ, zero, suc, _≤_, _<_}
-use lib.ListN.{length}
+use Prim.Native.Nat.{ℕ, zero, suc}
 use Rattle.std.specs.Options.{isSome}
 use Rattle.std.specs.declared.option.Option.{Option}
 use Rattle.std.specs.declared.option.Option.the-variants.{None, Some}
-use Rattle.std.specs.declared.result.Result.the-variants.{Ok}
 use Rattle.draws.specs.Sources.{Words}
 use Rattle.draws.specs.Runners.{RunnerState}
 use Rattle.meaning.specs.Trees.{Steps, Total, Keeps}
@@ -17,14 +15,13 @@ use Rattle.meaning.specs.PlaceLaws.{if-grown, WhereGrown}
 use Rattle.meaning.specs.Growths.{Growth, Roots}
 use Rattle.meaning.specs.Tables.{TableGrowth}
 use Rattle.meaning.specs.TableLaws.{TableTotal, TableKeeps, TableRoots, Standing, Slot}
-use Rattle.meaning.specs.Vectors.{VecTree, members}
+use Rattle.meaning.specs.Vectors.{VecTree}
 use Rattle.meaning.specs.VectorLaws.{VecSound, vec-sound}
 use Rattle.meaning.specs.Fuses.{fuse-sound}
 use Rattle.meaning.specs.Filters.{filter-sound}
 use Rattle.meaning.specs.FilterMaps.{given, filter-map-sound}
 use Rattle.meaning.specs.Pairs.{Pair, end-sound, pair-sound}
-use Rattle.meaning.specs.Arrays.{ArrayTree, as-vector, array-sound}
-use Rattle.meaning.specs.Runs.{Call, Promised, history}
+use Rattle.meaning.specs.Arrays.{as-vector, array-sound}
 use Rattle.meaning.specs.Fuses.{FuseTree}
 use Rattle.meaning.specs.SetLaws.{set-sound}
 use Rattle.meaning.specs.Lazies.{Lazy, TableWait}

@@ -2,7 +2,7 @@
 
 use mathlib.Core.Path.{_≡_, refl, sym, _∙_, ap, subst}
 use mathlib.Core.List.{List, [], _∷_, _++_}
-use mathlib.Core.Bool.{Bool, true, false, cond, false≢true}
+use mathlib.Core.Bool.{Bool, true, false, cond}
 use Prim.Native.Nat.{ℕ, zero, suc, _+_, _≤_, _<_}
 use native.Mathlib.Nat.{le-refl}
 use native.Mathlib.Omega.{arith}
@@ -12,13 +12,13 @@ use borrow.Author.Tests.{eqb-false}
 use Rattle.std.specs.declared.option.Option.{Option}
 use Rattle.std.specs.declared.option.Option.the-variants.{None, Some}
 use Rattle.meaning.specs.declared.reduction.End.{End}
-use Rattle.meaning.specs.declared.reduction.End.the-variants.{Passes, Ended, Spent}
+use Rattle.meaning.specs.declared.reduction.End.the-variants.{Passes, Spent}
 use Rattle.meaning.specs.declared.reduction.ReduceFault.{ReduceFault}
 use Rattle.meaning.specs.declared.reduction.ReduceFault.the-variants.{TooShort, NoBudget, Blank}
-use Rattle.meaning.specs.Trees.{Stepped, Steps, meant, Simplifies, Complicates, SimplifyKept, ComplicateKept, Keeps}
-use Rattle.meaning.specs.Reductions.{Report, Happening, Event, verdicts, still, step, Reduction, over-at, preceded, by-step, judged, reduction, refusal}
+use Rattle.meaning.specs.Trees.{Steps, meant, Simplifies, Complicates, Keeps}
+use Rattle.meaning.specs.Reductions.{Report, Event, verdicts, still, step, Reduction, over-at, preceded, by-step, judged, reduction, refusal}
 use Rattle.meaning.specs.Reductions.Happening.{simplify, complicate, reading, verdict, refused, start, report}
-use Rattle.meaning.specs.Runs.{Call, report-of, reduced, history, since, trues, FalsesShow, WayBack, OneWayBack, Throughout, Judged, last-failed, Leads, ComesTo, IsSpent, Reported, Reductions, Promised}
+use Rattle.meaning.specs.Runs.{Call, report-of, reduced, history, since, trues, FalsesShow, OneWayBack, Throughout, Judged, last-failed, Leads, ComesTo, IsSpent, Reductions, Promised}
 use Rattle.meaning.specs.Runs.Call.{simplifying, complicating, looking, reducing}
 
 -- what is known of the events that follow a tree s

@@ -25,7 +25,7 @@ use Rattle.std.specs.declared.option.Option.the-variants.{None, Some}
 use Rattle.meaning.specs.declared.reduction.End.{End}
 use Rattle.meaning.specs.declared.reduction.End.the-variants.{Passes, Ended, Spent}
 use Rattle.meaning.specs.declared.reduction.ReduceFault.{ReduceFault}
-use Rattle.meaning.specs.Trees.{Stepped, Steps}
+use Rattle.meaning.specs.Trees.{Steps}
 use Rattle.meaning.specs.Reductions.{Report, Happening, Event, verdicts, still, step, Reduction, reduction, refusal}
 use Rattle.meaning.specs.Reductions.Happening.{simplify, complicate, reading, verdict, refused, start, report}
 

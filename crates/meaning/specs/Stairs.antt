@@ -5,15 +5,15 @@
 --   stair-steps   the steps of a stair's place
 --   stair-growth  a stair with a limit grows by a draw from 0 to the limit: that value, floor 0, no note
 
-use mathlib.Core.List.{List, [], _∷_}
-use mathlib.Core.Bool.{Bool, true, false, cond}
+use mathlib.Core.List.{[], _∷_}
+use mathlib.Core.Bool.{true, false, cond}
 use Prim.Native.Nat.{ℕ, _-_}
 use lib.Dec.{ltb}
 use Rattle.std.specs.declared.option.Option.{Option}
 use Rattle.std.specs.declared.option.Option.the-variants.{None, Some}
 use Rattle.std.specs.declared.result.Result.{Result}
 use Rattle.std.specs.declared.result.Result.the-variants.{Ok, Err}
-use Rattle.draws.specs.Sources.{Words, word}
+use Rattle.draws.specs.Sources.{word}
 use Rattle.draws.specs.Draws.{drawn}
 use Rattle.draws.specs.Runners.{RunnerState, advanced}
 use Rattle.draws.specs.declared.faults.DrawFault.{DrawFault}

@@ -11,7 +11,7 @@ use mathlib.Core.List.{List, [], _∷_}
 use mathlib.Core.Bool.{Bool, true, false, cond}
 use Prim.Native.Nat.{ℕ, zero, suc, _*_}
 use Rattle.std.specs.declared.result.Result.the-variants.{Err}
-use Rattle.meaning.specs.Trees.{Stepped, stays, Steps}
+use Rattle.meaning.specs.Trees.{Stepped, Steps}
 use Rattle.draws.specs.Sources.{Words}
 use Rattle.meaning.specs.Growths.{Outcome, Grows, Growth, too-few-slots}
 

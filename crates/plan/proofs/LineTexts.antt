@@ -17,7 +17,7 @@ use Rattle.std.proofs.shelf.Equals.{sameBytes-decides}
 use Rattle.std.proofs.shelf.Tests.{cases-bool, cond-true, cond-false}
 use Rattle.std.proofs.shelf.Ways.{decides-by-and, decides-ltb}
 use Rattle.plan.specs.Lines.{Line, line-of, line-in, keyed-line}
-use Rattle.plan.specs.Lines.Line.{low, high, draws, steps, wrong}
+use Rattle.plan.specs.Lines.Line.{wrong}
 use Rattle.plan.specs.Parts.{Parting, cut, join}
 use Rattle.plan.specs.Parts.Parting.{whole, parted}
 use Rattle.plan.specs.Plans.{by-kind, low-in, high-in, draws-in, steps-in}

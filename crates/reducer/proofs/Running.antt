@@ -1,11 +1,10 @@
 -- From a plan's text to what its session says.
 
 use mathlib.Core.Path.{_≡_, refl, sym, _∙_, ap}
-use mathlib.Core.List.{List, [], _∷_, _++_, map, append-nil}
-use mathlib.Core.Bool.{Bool, true, false, cond}
-use Prim.Native.Nat.{ℕ, _+_, _-_, _*_, _^_, _≤_, _<_}
+use mathlib.Core.List.{List, _++_, map, append-nil}
+use mathlib.Core.Bool.{Bool, cond}
+use Prim.Native.Nat.{ℕ, _-_, _^_, _≤_, _<_}
 use native.Mathlib.Omega.{arith}
-use lib.Dec.{ltb}
 use lib.ListN.{length, take, drop, replicate, length-append}
 use borrow.Author.Tests.{le-ltb, le-leb, lt-leb}
 use Rattle.std.specs.declared.result.Result.{Result}
@@ -16,7 +15,6 @@ use Rattle.meaning.specs.Vectors.{vec-blank}
 use Rattle.leaves.specs.declared.stair.Stair.{Stair}
 use Rattle.plan.specs.Plans.{PlanText, plan-of}
 use Rattle.plan.specs.Faithful.{Faithful}
-use Rattle.plan.specs.Texts.{Within}
 use Rattle.std.specs.Written.{decimal}
 use Rattle.std.proofs.shelf.Decimals.{length-decimal-le}
 use Rattle.lines.specs.Lines.{Said, page, line-bytes, ending}

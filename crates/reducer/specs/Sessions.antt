@@ -14,7 +14,7 @@
 --   Few             along some steps no candidate has more than so many items
 
 use mathlib.Core.List.{List, [], _∷_}
-use mathlib.Core.Bool.{Bool, true, false, cond}
+use mathlib.Core.Bool.{Bool, false, cond}
 use Prim.Native.Nat.{ℕ, _*_, _≤_}
 use lib.Dec.{ltb}
 use lib.ListN.{length, replicate}
@@ -25,7 +25,6 @@ use Rattle.buffers.specs.Over.{over}
 use Rattle.draws.specs.Faults.{grow-number}
 use Rattle.draws.specs.Sources.{TapeState, tape-words}
 use Rattle.draws.specs.Runners.{RunnerState}
-use Rattle.draws.specs.declared.faults.GrowFault.{GrowFault}
 use Rattle.meaning.specs.Trees.{Stepped, Steps}
 use Rattle.meaning.specs.Places.{Place}
 use Rattle.meaning.specs.Growths.{Grown, Outcome}
@@ -34,12 +33,10 @@ use Rattle.meaning.specs.Sizes.{size-number}
 use Rattle.meaning.specs.Stairs.{StairTree, stair-steps, stair-growth}
 use Rattle.meaning.specs.Tables.{slice-table, slice-growth, slice-short, slice-stated}
 use Rattle.meaning.specs.Vectors.{VecTree, vec-blank, vec-steps, vec-making, vec-growth}
-use Rattle.meaning.specs.declared.size_range.SizeFault.{SizeFault}
 use Rattle.meaning.specs.declared.size_range.SizeFault.the-variants.{Reversed}
 use Rattle.meaning.specs.declared.traits.StrategyFault.{StrategyFault}
 use Rattle.plan.specs.Plans.{PlanText, plan-of, plan-number}
 use Rattle.plan.specs.Said.{wrong-line}
-use Rattle.plan.specs.declared.plan.PlanFault.{PlanFault}
 use Rattle.plan.specs.declared.step.Step.{Step}
 use Rattle.plan.specs.declared.step.Step.the-variants.{View, Simplify, Complicate}
 use Rattle.lines.specs.Lines.{Said, page}

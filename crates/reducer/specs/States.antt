@@ -1,7 +1,7 @@
 -- What the code's vector of stairs means.
 --   vector-state   its state
 
-use mathlib.Core.List.{List, map}
+use mathlib.Core.List.{map}
 use denote.Ref.{now}
 use Rattle.meaning.specs.Places.{Place}
 use Rattle.meaning.specs.Stairs.{StairTree}

@@ -1,7 +1,7 @@
 -- The loop of a reduction, verdict by verdict.
 
 use mathlib.Core.Path.{_≡_, refl, sym, _∙_, ap}
-use mathlib.Core.List.{List, [], _∷_}
+use mathlib.Core.List.{List, []}
 use mathlib.Core.Bool.{Bool, true, false, cond}
 use Prim.Native.Nat.{ℕ, zero, suc, _+_, _≤_, _<_, min}
 use native.Mathlib.Omega.{arith}
@@ -11,11 +11,10 @@ use borrow.Author.Tests.{ne-eqb, eq-eqb}
 use Rattle.std.specs.declared.result.Result.the-variants.{Ok}
 use Rattle.buffers.specs.Over.{over}
 use Rattle.buffers.proofs.Overs.{length-over}
-use Rattle.meaning.specs.declared.reduction.Reduced.{Reduced}
 use Rattle.meaning.specs.declared.reduction.End.{End}
 use Rattle.meaning.specs.declared.reduction.End.the-variants.{Passes, Ended, Spent}
 use Rattle.meaning.specs.Trees.{Stepped, Steps}
-use Rattle.meaning.specs.Reductions.{Event, Happening, verdicts, still, step, Reduction, over-at, preceded, by-step, judged, reduction, copied, Done, done-after}
+use Rattle.meaning.specs.Reductions.{verdicts, still, step, Reduction, preceded, by-step, judged, reduction, copied, Done, done-after}
 use Rattle.meaning.specs.Reductions.Happening.{simplify, complicate, verdict}
 
 -- a reduction that is over

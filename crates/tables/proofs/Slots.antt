@@ -6,12 +6,12 @@ use mathlib.Core.Bool.{Bool, true, false, cond}
 use Prim.Native.Nat.{ℕ, zero, suc, _+_, _-_, _≤_, _<_}
 use native.Mathlib.Numerals.{add-one}
 use native.Mathlib.Omega.{arith}
-use lib.ListN.{length, getD, set, drop, length-map}
+use lib.ListN.{length, getD, set, drop}
 use Rattle.std.specs.declared.result.Result.the-variants.{Err}
 use Rattle.draws.specs.Runners.{RunnerState}
 use Rattle.meaning.specs.Trees.{Stepped}
 use Rattle.meaning.specs.Growths.{Grown, Outcome, Grows, too-few-slots}
-use Rattle.meaning.specs.Tables.{at, change-at, step-at, beside, in-front, grow-at, lacking}
+use Rattle.meaning.specs.Tables.{at, step-at, beside, in-front, grow-at, lacking}
 
 module _ {Y S : Type 0} (state : Y → S) where
   pub at-slot : {A : Type 0} (f : S → A) (d : A) (xs : List Y) (i : ℕ) (e : Y) → i < length xs → f (state (getD xs i e)) ≡ at f d (map state xs) i

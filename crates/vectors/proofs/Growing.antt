@@ -1,7 +1,6 @@
 -- The growth of a table's trees, one element at a time.
 
-use mathlib.Core.Path.{_≡_, refl, sym, _∙_, ap}
-use mathlib.Core.Bool.{Bool, true, false, cond}
+use mathlib.Core.Path.{_≡_, refl, _∙_, ap}
 use Prim.Native.Nat.{ℕ, zero, suc, _+_, _≤_, _<_}
 use native.Mathlib.Numerals.{add-one}
 use native.Mathlib.Omega.{arith}
@@ -9,7 +8,7 @@ use Rattle.std.specs.declared.result.Result.the-variants.{Ok, Err}
 use Rattle.draws.specs.Runners.{RunnerState}
 use Rattle.draws.specs.Faults.{in-element}
 use Rattle.draws.specs.declared.faults.GrowFault.{GrowFault}
-use Rattle.meaning.specs.Growths.{Grown, Outcome, Grows}
+use Rattle.meaning.specs.Growths.{Outcome, Grows}
 use Rattle.meaning.specs.Vectors.{grow-on, grow-from}
 
 -- what growing the elements from number i on comes to, of which there are so many left

@@ -1,11 +1,9 @@
-use mathlib.Core.Path.{_≡_, _∙_, ap}
+use mathlib.Core.Path.{_∙_, ap}
 use mathlib.Core.List.{List}
 use Prim.Native.Nat.{ℕ, _*_}
 use Rattle.std.proofs.shelf.Results.{err-from-errBy}
-use Rattle.meaning.specs.Growths.{Grown}
 use Rattle.meaning.specs.Vectors.{vec-making}
 use Rattle.plan.specs.Said.{said}
-use Rattle.reducer.specs.Sessions.{grown, begun}
 use Rattle.reducer.specs.States.{vector-state}
 use Rattle.reducer.proofs.Beginning.{at-tape, begun-by}
 use Rattle.reducer.proofs.session.begin.Needs as need

@@ -1,10 +1,10 @@
-use mathlib.Core.Path.{_≡_, sym, _∙_, ap}
+use mathlib.Core.Path.{_∙_, ap}
 use mathlib.Core.List.{List}
-use Prim.Native.Nat.{ℕ, _+_}
+use Prim.Native.Nat.{ℕ}
 use native.Mathlib.Omega.{arith}
 use lib.ListN.{length}
 use Rattle.buffers.specs.Over.{over}
-use Rattle.lines.specs.Lines.{Said, line-bytes}
+use Rattle.lines.specs.Lines.{line-bytes}
 use Rattle.reducer.specs.Sessions.{session, session-bytes}
 use Rattle.reducer.proofs.Running.{told-steps, told-refusal}
 use Rattle.reducer.proofs.session.write_page.Needs as need

@@ -1,4 +1,3 @@
-use mathlib.Core.Path.{sym}
 use Rattle.draws.specs.Runners.{run}
 use Rattle.tables.proofs.Slots.{grow-slot, grow-past}
 use Rattle.tables.proofs.slice_table.grow_at.Needs as need

@@ -1,4 +1,4 @@
-use mathlib.Core.Path.{sym, _∙_, ap}
+use mathlib.Core.Path.{sym}
 use native.Mathlib.Omega.{arith}
 use Rattle.vectors.proofs.Walking.{walk-end, walk-skip, walk-found, walk-on}
 use Rattle.vectors.proofs.collection.walk_in.Needs as need
