@@ -10,12 +10,11 @@
 --   unless-roots     such a growth keeps what every growth should, where the other grew
 --   accepted-is-no-fault, draw-is-not-slots, reject-is-not-slots   answers and causes that differ
 
-use mathlib.Core.Path.{_≡_, refl, sym, subst}
+use mathlib.Core.Path.{_≡_, refl, sym, ap, subst}
 use mathlib.Core.Bool.{Bool, true, false, cond}
 use mathlib.Core.Logic.{inl, inr}
 use Prim.Native.Nat.{ℕ, _≤_}
 use native.Mathlib.Nat.{le-refl}
-use native.Mathlib.Omega.{arith}
 use Rattle.std.proofs.shelf.Tests.{cases-bool, cond-true, cond-false}
 use Rattle.std.specs.declared.result.Result.the-variants.{Ok, Err}
 use Rattle.draws.specs.Runners.{RunnerState}
@@ -32,17 +31,32 @@ abbrev pub Gives : Type 0 → (Cause → Type 0) → Grown → Type 0
 Gives Done Failed (Ok _) = Done
 Gives Done Failed (Err fault) = Failed (fault .cause)
 
+-- told apart by their shape
+abbrev is-accepted : Grown → Type 0
+is-accepted (Ok _) = Unit {0}
+is-accepted (Err fault) = ⊥
+
+abbrev not-slots : Cause → Type 0
+not-slots Slots = ⊥
+not-slots (Draw fault) = Unit {0}
+not-slots (Reject fault) = Unit {0}
+
 pub accepted-is-no-fault : {fault : GrowFault} → _≡_ {A = Grown} (Ok tt) (Err fault) → ⊥
-accepted-is-no-fault e = let clash : _≡_ {A = ℕ} 0 1 = cc in omega arith
+accepted-is-no-fault e = subst is-accepted e tt
 
 pub reject-is-not-slots : {fault : RejectFault} → Reject fault ≡ Slots → ⊥
-reject-is-not-slots e = let clash : _≡_ {A = ℕ} 0 1 = cc in omega arith
+reject-is-not-slots e = subst not-slots e tt
 
 pub draw-is-not-slots : {fault : DrawFault} → Draw fault ≡ Slots → ⊥
-draw-is-not-slots e = let clash : _≡_ {A = ℕ} 0 1 = cc in omega arith
+draw-is-not-slots e = subst not-slots e tt
+
+-- the fault of a refusal, and another where there is none
+abbrev fault-or : GrowFault → Grown → GrowFault
+fault-or other (Ok _) = other
+fault-or other (Err fault) = fault
 
 same-fault : {one other : GrowFault} → _≡_ {A = Grown} (Err one) (Err other) → one ≡ other
-same-fault e = cc
+same-fault {one} {other} e = ap (fault-or one) e
 
 module _ (Done : Type 0) (Failed : Cause → Type 0) where
   pub gives : (answer : Grown) → (answer ≡ Ok tt → Done) → ((fault : GrowFault) → answer ≡ Err fault → Failed (fault .cause)) → Gives Done Failed answer

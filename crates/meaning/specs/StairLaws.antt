@@ -8,7 +8,6 @@ use mathlib.Core.Bool.{Bool, true, false, cond}
 use mathlib.Core.Logic.{inl}
 use Prim.Native.Nat.{ℕ, _≤_}
 use native.Mathlib.Nat.{le-refl}
-use native.Mathlib.Omega.{arith}
 use lib.Dec.{ltb}
 use Rattle.std.specs.declared.option.Option.{Option}
 use Rattle.std.specs.declared.option.Option.the-variants.{None, Some}
@@ -34,7 +33,7 @@ noting s note = record { value = s .value; floor = s .floor; note = note }
 
 stair-ends : (s : StairTree) (note : Option ℕ) → Ends (always bare-stair) (noting s note)
 stair-ends s None = le-refl 0
-stair-ends s (Some v) = omega arith
+stair-ends s (Some v) = le-refl 1
 
 pub stair-total : Total stair-steps
 stair-total = placed-total bare-stair (λ s. stair-ends s (s .note))
@@ -45,7 +44,7 @@ stair-simplify s false = (tt, (refl, inl refl), refl)
 
 stair-complicate : (s : StairTree) (note : Option ℕ) → ComplicateKept (always bare-stair) Any (noting s note) (returned (noting s note) note)
 stair-complicate s None = (tt, (refl, refl, refl, le-refl 0), refl)
-stair-complicate s (Some v) = (tt, (refl, omega arith), refl)
+stair-complicate s (Some v) = (tt, (refl, le-refl 1), refl)
 
 pub stair-keeps : Keeps stair-steps (λ s. Unit {0})
 stair-keeps = placed-keeps bare-stair Any (record {
