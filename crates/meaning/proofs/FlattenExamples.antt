@@ -97,12 +97,23 @@ tens-spent = refl
 tens-spent-last : tens 1 0 (true ∷ false ∷ false ∷ []) ≡ record { answer = true; shows = 20 ∷ []; home = 20 ∷ []; back = 0 }
 tens-spent-last = refl
 
--- a stair with the limit 9 for any number, or for an even one, where growth for an odd one is refused
+-- a stair with the limit 9 for any number
 abbrev any : Growth ℕ (Place StairTree)
 any = stair-growth (λ m. 9)
 
+-- for an even number, or for an odd one, where growth for another is refused
+abbrev only : ℕ → Growth ℕ (Place StairTree)
+only rest m X w r s = cond (eqb (m % 2) rest) (any m X w r s) (record { answer = Err (spent Spent); runner = r; place = stair-steps .blank s })
+
 abbrev evens : Growth ℕ (Place StairTree)
-evens m X w r s = cond (eqb (m % 2) 0) (any m X w r s) (record { answer = Err (spent Spent); runner = r; place = stair-steps .blank s })
+evens = only 0
+
+-- for any number, where growth by an odd word is refused
+abbrev even-words : Growth ℕ (Place StairTree)
+even-words m X w r s = by-word (any m X w r s)
+  where
+    by-word : Outcome X (Place StairTree) → Outcome X (Place StairTree)
+    by-word o = cond (eqb (first (stair-steps .candidate (o .place)) % 2) 0) o (record { answer = Err (spent Spent); runner = o .runner; place = stair-steps .blank (o .place) })
 
 abbrev stairs-grown : Growth ℕ (Place StairTree) → (few : Bool) → List ℕ → Outcome TapeState (Place (FlatTree (Place StairTree) (Place StairTree) ℕ))
 stairs-grown g few words = grown g blank-stair few (tape words 2 5)
@@ -116,6 +127,23 @@ refused-simplify = refl
 
 refused-complicate : stairs evens (2 ∷ 0 ∷ 0 ∷ 5 ∷ []) (true ∷ false ∷ []) ≡ record { answer = false; shows = 0 ∷ []; home = 0 ∷ []; back = 0 }
 refused-complicate = refl
+
+-- the smallest: a source at 1, and regrowth for 0 is refused
+smallest-simplify : stairs (only 1) (1 ∷ 0 ∷ 5 ∷ []) (true ∷ []) ≡ record { answer = false; shows = 0 ∷ []; home = 0 ∷ []; back = 0 }
+smallest-simplify = refl
+
+smallest-complicate : stairs (only 1) (1 ∷ 0 ∷ 5 ∷ []) (true ∷ false ∷ []) ≡ record { answer = false; shows = 0 ∷ []; home = 0 ∷ []; back = 0 }
+smallest-complicate = refl
+
+-- two regrowths are refused by odd words, and what was kept is taken; the word 4 is not drawn any more
+kept-simplify : stairs even-words (1 ∷ 0 ∷ 2 ∷ 1 ∷ 1 ∷ 4 ∷ []) (true ∷ []) ≡ record { answer = true; shows = 2 ∷ []; home = 0 ∷ []; back = 6 }
+kept-simplify = refl
+
+kept-taken : stairs even-words (1 ∷ 0 ∷ 2 ∷ 1 ∷ 1 ∷ 4 ∷ []) (true ∷ false ∷ []) ≡ record { answer = true; shows = 0 ∷ []; home = 0 ∷ []; back = 0 }
+kept-taken = refl
+
+kept-ends : stairs even-words (1 ∷ 0 ∷ 2 ∷ 1 ∷ 1 ∷ 4 ∷ []) (true ∷ false ∷ false ∷ []) ≡ record { answer = false; shows = 0 ∷ []; home = 0 ∷ []; back = 0 }
+kept-ends = refl
 
 -- regrowth for 1 takes the tape's last word: the regeneration and the source's way back are refused, and what was kept is taken
 last-word : stairs any (2 ∷ 0 ∷ 7 ∷ []) (true ∷ []) ≡ record { answer = true; shows = 7 ∷ []; home = 0 ∷ []; back = 6 }
