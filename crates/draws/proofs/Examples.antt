@@ -58,7 +58,7 @@ calls (suc n) w s = word w s ∷ calls n w (after w s)
 abbrev three-words : List (Option ℕ)
 three-words = Some 1082269761 ∷ Some 1152992998833853505 ∷ Some 11177516664432764457 ∷ []
 
--- the generator's first words from the seed 1
+-- the first words of a generator that is seeded with 1
 generator-from-one : calls 3 generator-words (seeded 1) ≡ three-words
 generator-from-one = refl
 

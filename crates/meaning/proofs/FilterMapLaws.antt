@@ -18,11 +18,11 @@ use Rattle.std.specs.declared.option.Option.the-variants.{None, Some}
 use Rattle.meaning.specs.Trees.{Steps, Meant, meant, Simplifies, Complicates, Total, Keeps}
 use Rattle.meaning.specs.Growths.{Growth, Roots}
 use Rattle.meaning.specs.Sifters.{sifter-steps}
-use Rattle.meaning.specs.FilterMaps.{FilterMapTree, given, gives, mapped, filter-map-steps, filter-map-growth, filter-map-short, filter-map-sound}
+use Rattle.meaning.specs.FilterMaps.{FilterMapTree, given, has-item, mapped, filter-map-steps, filter-map-growth, filter-map-short, filter-map-sound}
 use Rattle.meaning.proofs.SifterLaws.{sifter-total, sifter-keeps, sifter-roots}
 
 pub filter-map-total : {S I J : Type 0} {t : Steps S I} → Total t → Total (filter-map-steps {J = J} t)
-filter-map-total {t} total = let sifter = sifter-total gives total in record {
+filter-map-total {t} total = let sifter = sifter-total has-item total in record {
   ends = sifter .ends;
   simplify-grown = sifter .simplify-grown;
   complicate-grown = sifter .complicate-grown;
@@ -69,18 +69,18 @@ filter-map-keeps {S} {I} {J} {t} total keeps = record {
   fits = λ s is-sound. mapped-fits (t .grown (s .source)) (s .fun) (t .candidate (s .source));
   simplify = λ s is-sound.
       let step = sifter .simplify s in
-      let (now-sound, means, longest) = sifter-keeps gives keeps .simplify s is-sound in
-      let same = sifter-total gives total .simplify-grown s in
+      let (now-sound, means, longest) = sifter-keeps has-item keeps .simplify s is-sound in
+      let same = sifter-total has-item total .simplify-grown s in
       (now-sound, subst (λ grown. Simplifies (meant shown s) (step .answer) (seen grown (step .tree))) (sym same) (viewed-simplifies (view s) (meant sifter s) (meant sifter (step .tree)) (step .answer) means), ap (λ grown. cond grown 1 0) same);
   complicate = λ s is-sound.
       let step = sifter .complicate s in
-      let (now-sound, means, longest) = sifter-keeps gives keeps .complicate s is-sound in
-      let same = sifter-total gives total .complicate-grown s in
+      let (now-sound, means, longest) = sifter-keeps has-item keeps .complicate s is-sound in
+      let same = sifter-total has-item total .complicate-grown s in
       (now-sound, subst (λ grown. Complicates (meant shown s) (step .answer) (seen grown (step .tree))) (sym same) (viewed-complicates (view s) (meant sifter s) (meant sifter (step .tree)) (step .answer) means), ap (λ grown. cond grown 1 0) same);
 }
   where
     sifter : Steps (FilterMapTree S I J) I
-    sifter = sifter-steps t gives
+    sifter = sifter-steps t has-item
 
     shown : Steps (FilterMapTree S I J) J
     shown = filter-map-steps t
@@ -93,7 +93,7 @@ filter-map-keeps {S} {I} {J} {t} total keeps = record {
 
 pub filter-map-roots : {S I J P Q : Type 0} {t : Steps S I} {sound : S → Type 0} {short : P → S → Bool} {g : Growth P S} {stated : P → ℕ} (under : Q → P) (map : Q → List I → Option J) → Total t →
     Roots t sound short g stated → Roots (filter-map-steps t) (filter-map-sound t sound) (filter-map-short under short) (filter-map-growth t under map g) (λ q. 1)
-filter-map-roots {t} under map total roots = sifter-roots (filter-map-steps t) (λ s. refl) (λ s. refl) map gives under (λ q. 1) total roots
+filter-map-roots {t} under map total roots = sifter-roots (filter-map-steps t) (λ s. refl) (λ s. refl) map has-item under (λ q. 1) total roots
     (λ q x rooted states. (
       record { is-sound = rooted .is-sound; is-grown = rooted .is-grown; at-home = ap (mapped (t .grown x) (map q)) (rooted .at-home); no-back = rooted .no-back },
       ap (λ grown. cond grown 1 0) (rooted .is-grown),

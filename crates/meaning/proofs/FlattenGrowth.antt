@@ -17,10 +17,11 @@ use Rattle.meaning.specs.Trees.{Steps}
 use Rattle.meaning.specs.Places.{Place}
 use Rattle.meaning.specs.Growths.{Grown, Outcome, Growth, Roots}
 use Rattle.meaning.specs.GrowthLaws.{Gives, gives, Grew, unless-roots}
-use Rattle.meaning.specs.TableLaws.{Standing}
+use Rattle.meaning.specs.TableLaws.{Standing, Limited}
 use Rattle.meaning.specs.Offers.{if-accepted, after-request, offers-of}
-use Rattle.meaning.specs.Flattens.{FlatTree, fresh, with-trees, flat-steps, Chooser, current-grown, source-grown, flat-short, flat-grows, flat-growth}
-use Rattle.meaning.specs.FlattenLaws.{Fits, Fitting, flat-sound, ChooserKeeps}
+use Rattle.meaning.specs.Fuses.{fused}
+use Rattle.meaning.specs.Flattens.{FlatTree, with-trees, flat-steps, Chooser, current-grown, source-grown, flat-short, flat-grows, flat-growth}
+use Rattle.meaning.specs.FlattenLaws.{Fitting, flat-sound, ChooserKeeps}
 use Rattle.meaning.proofs.Growing.{neither}
 
 accepted-is : {S : Type 0} (answer : Grown) (s new : S) (A : S → Type 0) → (answer ≡ Ok tt → A s) → if-accepted answer s ≡ Some new → A new
@@ -33,7 +34,7 @@ module _ {M S J I N P Q : Type 0} {source : Steps M J} {t : Steps S I} {source-s
   -- what is chosen for a list grows so
   module _ (q : Q) (X : Type 0) (w : Words X) where
     abbrev Fit : S → Type 0
-    Fit = Fits t (Standing t sound) (chooser .longest q)
+    Fit = Limited t (Standing t sound) (chooser .longest q)
 
     chosen-fits : (l : List J) (r : RunnerState X) (s : S) → g (chooser .choose q l) X w r s .answer ≡ Ok tt → Fit (g (chooser .choose q l) X w r s .place)
     chosen-fits l r s accepted =
@@ -62,7 +63,7 @@ module _ {M S J I N P Q : Type 0} {source : Steps M J} {t : Steps S I} {source-s
       NotSlots cause = cause ≡ Slots → ⊥
 
       current-given : (m : M) → Standing source source-sound m → (o : Outcome X S) (answer : Grown) → Gives (Fit (o .place)) NotSlots answer → Kept (o .runner .rejections) m (o .place) →
-          FlatGiven (current-grown w (offers-of (chooser .choose q) (λ chosen. g chosen X w)) (chooser .longest q) (with-trees x (fresh m) (x .current)) o answer)
+          FlatGiven (current-grown w (offers-of (chooser .choose q) (λ chosen. g chosen X w)) (chooser .longest q) (with-trees x (fused m) (x .current)) o answer)
       current-given m standing o (Ok _) fits kept = (
         (
           record {

@@ -12,12 +12,12 @@ use Rattle.std.specs.declared.option.Option.{Option}
 use Rattle.std.specs.declared.option.Option.the-variants.{None, Some}
 use Rattle.meaning.specs.Trees.{Stepped, stays, Steps, meant, Complicates, Falls, SimplifyKept, ComplicateKept, Total, Keeps}
 use Rattle.meaning.specs.PlaceLaws.{always, placed-keeps}
-use Rattle.meaning.specs.TableLaws.{Standing}
-use Rattle.meaning.specs.Fuses.{FuseTree, disallow-complicate, fuse-steps, fuse-sound}
+use Rattle.meaning.specs.TableLaws.{Standing, Limited}
+use Rattle.meaning.specs.Fuses.{fused, FuseTree, disallow-complicate, fuse-steps, fuse-sound}
 use Rattle.meaning.specs.Offers.{Request, Offers, asked}
 use Rattle.meaning.specs.Offers.Request.{spend}
-use Rattle.meaning.specs.Flattens.{FlatTree, with-trees, with-final, with-runner, moves, fresh, led-home, alone, wanted, offered, renewed, another, returning, flat-simplify, further, once-more, regenerating, flat-complicate, bare-flat, flat-steps}
-use Rattle.meaning.specs.FlattenLaws.{Shut, Fits, Fitting, FlatSound, flat-sound}
+use Rattle.meaning.specs.Flattens.{FlatTree, with-trees, with-final, with-runner, moves, led-home, alone, wanted, offered, renewed, another, returning, flat-simplify, further, once-more, regenerating, flat-complicate, bare-flat, flat-steps}
+use Rattle.meaning.specs.FlattenLaws.{Shut, Fitting, FlatSound, flat-sound}
 use Rattle.meaning.proofs.FuseLaws.{fuse-keeps}
 use Rattle.meaning.proofs.ShutFuses.{shut-is, step, still-shut, led-rests}
 use Rattle.meaning.proofs.VectorSteps.{keeps-standing}
@@ -43,10 +43,10 @@ module _ {M S J I : Type 0} (source : Steps M J) (t : Steps S I) (source-sound :
   Current = SimplifyKept (fuse-steps t) (fuse-sound sound)
 
   -- a flatten's current after a step of its own
-  still-fits : (x : FlatTree M S J) (c : FuseTree S) → Sound x → sound (c .inner) → t .longest (c .inner) ≡ t .longest (x .current .inner) → Fits t sound (x .longest) (c .inner)
+  still-fits : (x : FlatTree M S J) (c : FuseTree S) → Sound x → sound (c .inner) → t .longest (c .inner) ≡ t .longest (x .current .inner) → Limited t sound (x .longest) (c .inner)
   still-fits x c is-sound c-sound longest = (c-sound, rw longest (is-sound .current .1))
 
-  alone-sound : (x : FlatTree M S J) (c : FuseTree S) → Sound x → Fits t sound (x .longest) (c .inner) → Sound (alone x c)
+  alone-sound : (x : FlatTree M S J) (c : FuseTree S) → Sound x → Limited t sound (x .longest) (c .inner) → Sound (alone x c)
   alone-sound x c is-sound fits = record { source = is-sound .source; current = fits; offers = is-sound .offers; way-back = (refl, refl) }
 
   -- simplify, where it answers false
@@ -63,7 +63,7 @@ module _ {M S J I : Type 0} (source : Steps M J) (t : Steps S I) (source-sound :
   module _ (source-keeps : Keeps source source-sound) (keeps : Keeps t sound) where
     -- simplify, where current answered false and became c, and the source answered true and became m
     another-kept : (x : FlatTree M S J) (m : FuseTree M) (c : FuseTree S) → Sound x → source-sound (m .inner) → Current (x .current) (step false c) → (Shut (x .current) → Shut c) →
-        (gave : Option S) → ((new : S) → gave ≡ Some new → Fits t sound (x .longest) new) → SimplifyKept flat Sound x (another source (with-runner (with-trees x m c) (x .runner) 0) gave)
+        (gave : Option S) → ((new : S) → gave ≡ Some new → Limited t sound (x .longest) new) → SimplifyKept flat Sound x (another source (with-runner (with-trees x m c) (x .runner) 0) gave)
     another-kept x m c is-sound m-sound kept c-shut (Some new) fits =
         (record { source = m-sound; current = fits new refl; offers = λ later. is-sound .offers (_ ∷ later); way-back = (still-fits x c is-sound (kept .0) (kept .2), refl, refl) }, kept .1 .0, refl)
     another-kept x m c is-sound m-sound kept c-shut None fits =
@@ -124,13 +124,13 @@ module _ {M S J I : Type 0} (source : Steps M J) (t : Steps S I) (source-sound :
       refused-sound x = asked-sound x (wanted source (awaited x final)) (x .remaining)
 
       -- after one that was accepted
-      renewed-led : (x : FlatTree M S J) (new : S) (remaining : ℕ) → Sound (awaited x final) → Fits t sound (x .longest) new → Led (awaited x final) (moves (renewed source (awaited x final) (fresh new) remaining))
+      renewed-led : (x : FlatTree M S J) (new : S) (remaining : ℕ) → Sound (awaited x final) → Limited t sound (x .longest) new → Led (awaited x final) (moves (renewed source (awaited x final) (fused new) remaining))
       renewed-led x new remaining is-sound fits = (record { source = is-sound .source; current = fits; offers = λ later. is-sound .offers (_ ∷ later); way-back = (is-sound .way-back .0, refl, refl) }, refl, refl)
 
       last-led : (x : FlatTree M S J) → Sound (awaited x final) → Led (awaited x final) (moves (alone (awaited x final) (disallow-complicate final)))
       last-led x is-sound = (alone-sound (awaited x final) (disallow-complicate final) is-sound (is-sound .way-back .0), refl, refl)
 
-      returning-led : (x : FlatTree M S J) → Sound (awaited x final) → (gave : Option S) → ((new : S) → gave ≡ Some new → Fits t sound (x .longest) new) → Led (awaited x final) (returning source (awaited x final) gave)
+      returning-led : (x : FlatTree M S J) → Sound (awaited x final) → (gave : Option S) → ((new : S) → gave ≡ Some new → Limited t sound (x .longest) new) → Led (awaited x final) (returning source (awaited x final) gave)
       returning-led x is-sound (Some new) fits = renewed-led x new (x .cases) is-sound (fits new refl)
       returning-led x is-sound None fits = last-led (refused x) (refused-sound x is-sound)
 
@@ -150,7 +150,7 @@ module _ {M S J I : Type 0} (source : Steps M J) (t : Steps S I) (source-sound :
           by true = returning-led y y-sound (offered source (awaited y final)) (is-sound .offers [] _ _)
           by false = last-led y y-sound
 
-      once-more-led : (x : FlatTree M S J) → Sound (awaited x final) → (gave : Option S) → ((new : S) → gave ≡ Some new → Fits t sound (x .longest) new) → Led (awaited x final) (once-more source t (awaited x final) gave)
+      once-more-led : (x : FlatTree M S J) → Sound (awaited x final) → (gave : Option S) → ((new : S) → gave ≡ Some new → Limited t sound (x .longest) new) → Led (awaited x final) (once-more source t (awaited x final) gave)
       once-more-led x is-sound (Some new) fits = renewed-led x new (x .remaining) is-sound (fits new refl)
       once-more-led x is-sound None fits = further-led (refused x) (refused-sound x is-sound)
 

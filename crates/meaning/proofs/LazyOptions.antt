@@ -21,9 +21,10 @@ use Rattle.draws.specs.declared.faults.GrowFault.{GrowFault}
 use Rattle.meaning.specs.Trees.{Stepped, Steps, Ends, SimplifyKept, ComplicateKept, Blank, Total, Keeps}
 use Rattle.meaning.specs.Growths.{Grown, Outcome, Growth, Rooted, Roots}
 use Rattle.meaning.specs.GrowthLaws.{Grew, unless-roots}
-use Rattle.meaning.specs.Lazies.{Lazy, place-of, is-accepted, tried, lazy-start, lazy-steps, lazy-short, lazy-grows, lazy-growth, lazy-wait}
+use Rattle.meaning.specs.Lazies.{Lazy, place-of, is-accepted, started-as, lazy-start, lazy-steps, lazy-short, lazy-grows, lazy-growth, lazy-wait}
 use Rattle.meaning.specs.Lazies.Lazy.{uninitialized, initialized, failed}
-use Rattle.meaning.specs.LazyLaws.{Limited, lazy-sound}
+use Rattle.meaning.specs.TableLaws.{Limited}
+use Rattle.meaning.specs.LazyLaws.{lazy-sound}
 
 module _ {S I : Type 0} {t : Steps S I} (total : Total t) where
   lazy-ends : (x : Lazy S) → Ends (lazy-steps t) x
@@ -87,7 +88,7 @@ limited-sound t sound limit (initialized s) is-grown fits is-sound = (is-sound, 
 limited-sound t sound limit (failed s) is-grown fits is-sound = tt
 
 -- starting an option that is sound
-tried-sound : {S : Type 0} (sound : S → Type 0) (s place : S) (answer : Bool) → (let later : Stepped S = record { answer = answer; tree = s } in lazy-sound sound (uninitialized place later) → lazy-sound sound (tried later))
+tried-sound : {S : Type 0} (sound : S → Type 0) (s place : S) (answer : Bool) → (let later : Stepped S = record { answer = answer; tree = s } in lazy-sound sound (uninitialized place later) → lazy-sound sound (started-as later))
 tried-sound sound s place true is-sound = is-sound
 tried-sound sound s place false is-sound = tt
 
@@ -98,7 +99,7 @@ started-sound sound (failed s) is-sound = tt
 
 -- an option's growth, by the answer of its tree's
 abbrev tried-by : {S : Type 0} → S → Grown → Lazy S
-tried-by s answer = tried (record { answer = is-accepted answer; tree = s })
+tried-by s answer = started-as (record { answer = is-accepted answer; tree = s })
 
 tried-place : {S : Type 0} (s : S) (answer : Grown) → place-of (tried-by s answer) ≡ s
 tried-place s (Ok _) = refl

@@ -44,5 +44,6 @@ pub mod FlattenEnds
 pub mod FlattenSteps
 pub mod FlattenGrowth
 mod FlattenExamples
+mod ReductionExamples
 pub mod Promising
 pub mod Piling

@@ -14,10 +14,10 @@ use Rattle.meaning.specs.Trees.{Steps, Keeps}
 use Rattle.meaning.specs.Growths.{Growth, Rooted, Roots}
 use Rattle.meaning.specs.GrowthLaws.{accepted-is-no-fault}
 use Rattle.meaning.specs.Tables.{TableGrowth}
-use Rattle.meaning.specs.TableLaws.{Apart, TableRoots, together}
+use Rattle.meaning.specs.TableLaws.{Apart, TableRoots, together, Limited}
 use Rattle.meaning.specs.Pairs.{Pair, first-part, rest-part, no-trees, pair-table, end-growth, pair-growth, end-short, pair-short, pair-stated, pair-sound}
 use Rattle.meaning.specs.Lazies.{Lazy, lazy-steps, lazy-short, lazy-growth, TableWait}
-use Rattle.meaning.specs.LazyLaws.{Limited, lazy-sound, OptionsKeep, OptionsRoot}
+use Rattle.meaning.specs.LazyLaws.{lazy-sound, OptionsKeep, OptionsRoot}
 use Rattle.meaning.specs.PairOptions.{end-start, pair-start, end-wait, pair-wait, end-options-stated, pair-options-stated, end-options-sound, pair-options-sound}
 use Rattle.meaning.proofs.Growing.{neither}
 use Rattle.meaning.proofs.PairLaws.{part-rooted, end-keeps, end-roots, pair-keeps, Untouched, untouched-apart, pair-roots}

@@ -14,7 +14,7 @@ use Rattle.meaning.specs.Places.{Place}
 use Rattle.meaning.specs.PlaceLaws.{if-grown, WhereGrown}
 use Rattle.meaning.specs.Growths.{Growth, Roots}
 use Rattle.meaning.specs.Tables.{TableGrowth}
-use Rattle.meaning.specs.TableLaws.{TableTotal, TableKeeps, TableRoots, Standing, Slot}
+use Rattle.meaning.specs.TableLaws.{TableTotal, TableKeeps, TableRoots, Standing, Slot, Limited}
 use Rattle.meaning.specs.Vectors.{VecTree}
 use Rattle.meaning.specs.VectorLaws.{VecSound, vec-sound}
 use Rattle.meaning.specs.Fuses.{fuse-sound}
@@ -26,15 +26,15 @@ use Rattle.meaning.specs.Fuses.{FuseTree}
 use Rattle.meaning.specs.SetLaws.{set-sound}
 use Rattle.meaning.specs.Lazies.{Lazy, TableWait}
 use Rattle.meaning.specs.Lazies.Lazy.{uninitialized, initialized, failed}
-use Rattle.meaning.specs.LazyLaws.{Limited, lazy-sound, OptionsKeep, OptionsRoot}
+use Rattle.meaning.specs.LazyLaws.{lazy-sound, OptionsKeep, OptionsRoot}
 use Rattle.meaning.specs.SliceOptions.{slice-options-sound}
 use Rattle.meaning.specs.PairOptions.{end-options-sound, pair-options-sound}
 use Rattle.meaning.specs.Unions.{UnionTree}
 use Rattle.meaning.specs.UnionLaws.{UnionSound, union-sound}
 use Rattle.meaning.specs.Flattens.{FlatTree}
-use Rattle.meaning.specs.FlattenLaws.{WayBack, FlatSound, flat-sound}
-use Rattle.meaning.specs.Piles.{Pile, TablePile, OptionPile, Gives, VecShown, LazyShown, UnionShown, KeptShown, FlatShown, Shown, ShownAt, OptionShown, Promise}
-use Rattle.meaning.specs.Piles.Pile.{leaf, fuse, no-shrink, filter, filter-map, vec, array, bits, sampled, subset, union, flatten}
+use Rattle.meaning.specs.FlattenLaws.{LastBack, FlatSound, flat-sound}
+use Rattle.meaning.specs.Piles.{Pile, TablePile, OptionPile, ShowsGiven, VecShown, LazyShown, UnionShown, KeptShown, FlatShown, Shown, ShownAt, OptionShown, Promise}
+use Rattle.meaning.specs.Piles.Pile.{leaf, fuse, no-shrink, filter, filter-map, vec, array, bit-sets, sampled-sets, range-subsets, union, flatten}
 use Rattle.meaning.specs.Piles.TablePile.{slice, end, pair}
 use Rattle.meaning.specs.Piles.OptionPile.{slice-options, no-options, pair-options}
 use Rattle.meaning.proofs.SliceLaws.{slice-total, slice-keeps, slice-roots}
@@ -70,9 +70,9 @@ abbrev mutual
   Sound (filter-map t short g stated Q under map pile) s = filter-map-sound t (Sound pile) s
   Sound (vec table short g stated Q elements low high sizes pile) s = vec-sound table (SoundAt pile) s
   Sound (array table short g stated Q elements size pile) s = array-sound table (SoundAt pile) s
-  Sound (bits min max size) s = set-sound s
-  Sound (sampled min max size low high can) s = set-sound s
-  Sound (subset start count low high can) s = set-sound s
+  Sound (bit-sets min max size) s = set-sound s
+  Sound (sampled-sets min max size low high can) s = set-sound s
+  Sound (range-subsets start count low high can) s = set-sound s
   Sound (union table start short g wait stated Q options weights weighed pile) s = union-sound table (OptionSound pile) s
   Sound (flatten source source-short source-growth source-stated t short g stated Q under chooser keeps source-pile pile) s = flat-sound source t (Sound source-pile) (Sound pile) s
 
@@ -95,9 +95,9 @@ mutual
   pile-total (filter-map t short g stated Q under map pile) = filter-map-total (pile-total pile)
   pile-total (vec table short g stated Q elements low high sizes pile) = vec-total (table-total pile)
   pile-total (array table short g stated Q elements size pile) = array-total (table-total pile)
-  pile-total (bits min max size) = set-total
-  pile-total (sampled min max size low high can) = set-total
-  pile-total (subset start count low high can) = set-total
+  pile-total (bit-sets min max size) = set-total
+  pile-total (sampled-sets min max size low high can) = set-total
+  pile-total (range-subsets start count low high can) = set-total
   pile-total (union table start short g wait stated Q options weights weighed pile) = union-total start (options-total pile)
   pile-total (flatten source source-short source-growth source-stated t short g stated Q under chooser keeps source-pile pile) = flat-total (pile-total source-pile) (pile-total pile)
 
@@ -120,9 +120,9 @@ mutual
   pile-keeps (filter-map t short g stated Q under map pile) = filter-map-keeps (pile-total pile) (pile-keeps pile)
   pile-keeps (vec table short g stated Q elements low high sizes pile) = vec-keeps (table-total pile) (table-keeps pile)
   pile-keeps (array table short g stated Q elements size pile) = array-keeps (table-total pile) (table-keeps pile)
-  pile-keeps (bits min max size) = set-keeps
-  pile-keeps (sampled min max size low high can) = set-keeps
-  pile-keeps (subset start count low high can) = set-keeps
+  pile-keeps (bit-sets min max size) = set-keeps
+  pile-keeps (sampled-sets min max size low high can) = set-keeps
+  pile-keeps (range-subsets start count low high can) = set-keeps
   pile-keeps (union table start short g wait stated Q options weights weighed pile) = union-keeps (options-total pile) (options-keep pile)
   pile-keeps (flatten source source-short source-growth source-stated t short g stated Q under chooser keeps source-pile pile) = flat-keeps (pile-total source-pile) (pile-total pile) (pile-keeps source-pile) (pile-keeps pile)
 
@@ -145,9 +145,9 @@ mutual
   pile-roots (filter-map t short g stated Q under map pile) = filter-map-roots under map (pile-total pile) (pile-roots pile)
   pile-roots (vec table short g stated Q elements low high sizes pile) = vec-roots elements low high sizes (table-roots pile)
   pile-roots (array table short g stated Q elements size pile) = array-roots elements size (table-roots pile)
-  pile-roots (bits min max size) = bits-roots min max size
-  pile-roots (sampled min max size low high can) = sampled-roots min max size low high can
-  pile-roots (subset start count low high can) = subset-roots start count low high can
+  pile-roots (bit-sets min max size) = bits-roots min max size
+  pile-roots (sampled-sets min max size low high can) = sampled-roots min max size low high can
+  pile-roots (range-subsets start count low high can) = subset-roots start count low high can
   pile-roots (union table start short g wait stated Q options weights weighed pile) = union-roots start options weights weighed (options-root pile)
   pile-roots (flatten source source-short source-growth source-stated t short g stated Q under chooser keeps source-pile pile) = flat-roots under chooser keeps (pile-roots source-pile) (pile-roots pile)
 
@@ -181,7 +181,7 @@ pair-tells f fs (suc i) s h = fs i (s .rest) h
 vec-tells : {T I : Type 0} {table : ℕ → Steps T I} {sounds shows : ℕ → T → Type 0} → ((i : ℕ) (s : T) → sounds i s → shows i s) → (v : VecTree T) → VecSound table (λ i. Standing (table i) (sounds i)) v → VecShown shows v
 vec-tells f v q = (q .enough, λ i l. f i (v .elements) (q .each i l .0))
 
-map-tells : {J : Type 0} (o : Option J) (shown : List J) → isSome o ≡ true → shown ≡ given o → Gives o shown
+map-tells : {J : Type 0} (o : Option J) (shown : List J) → isSome o ≡ true → shown ≡ given o → ShowsGiven o shown
 map-tells None shown some e = absurd (false≢true some)
 map-tells (Some item) shown some e = e
 
@@ -193,7 +193,7 @@ lazy-tells t f limit (failed s) h = tt
 union-tells : {T I : Type 0} {table : ℕ → Steps T I} {sounds : ℕ → ℕ → T → Type 0} {shows : ℕ → T → Type 0} → ((limit i : ℕ) (s : T) → sounds limit i s → shows i s) → (u : UnionTree T) → UnionSound table sounds u → UnionShown shows u
 union-tells f u h = λ i l. f (u .longest) i (u .options) (h .each i l)
 
-kept-tells : {M S J I : Type 0} (t : Steps S I) {P Q : S → Type 0} → ((s : S) → P s → Q s) → (x : FlatTree M S J) (final : Option (FuseTree S)) → WayBack t (Standing t P) x final → KeptShown Q final
+kept-tells : {M S J I : Type 0} (t : Steps S I) {P Q : S → Type 0} → ((s : S) → P s → Q s) → (x : FlatTree M S J) (final : Option (FuseTree S)) → LastBack t (Standing t P) x final → KeptShown Q final
 kept-tells t f x None h = tt
 kept-tells t f x (Some final) h = f (final .inner) (h .0 .0 .0)
 
@@ -218,9 +218,9 @@ mutual
   sound-shows (filter-map t short g stated Q under map pile) = record { tells = λ s h. (λ grown. map-tells (s .fun (t .candidate (s .source))) _ (h .candidate) (filter-map-shows t (Sound pile) s h grown .0), sound-shows pile .tells (s .source) (h .is-sound)) }
   sound-shows (vec table short g stated Q elements low high sizes pile) = record { tells = λ s h. grown-tells (VecSound table (λ i. Standing (table i) (SoundAt pile i))) (VecShown (ShownAt pile)) (vec-tells (sound-shows-at pile .tells)) s h }
   sound-shows (array table short g stated Q elements size pile) = record { tells = λ s h. grown-tells (λ a. VecSound table (λ i. Standing (table i) (SoundAt pile i)) (as-vector a)) (λ a. VecShown (ShownAt pile) (as-vector a)) (λ a. vec-tells (sound-shows-at pile .tells) (as-vector a)) s h }
-  sound-shows (bits min max size) = record { tells = λ s h. tt }
-  sound-shows (sampled min max size low high can) = record { tells = λ s h. λ grown. set-shows-enough s grown h }
-  sound-shows (subset start count low high can) = record { tells = λ s h. λ grown. set-shows-enough s grown h }
+  sound-shows (bit-sets min max size) = record { tells = λ s h. tt }
+  sound-shows (sampled-sets min max size low high can) = record { tells = λ s h. λ grown. set-shows-enough s grown h }
+  sound-shows (range-subsets start count low high can) = record { tells = λ s h. λ grown. set-shows-enough s grown h }
   sound-shows (union table start short g wait stated Q options weights weighed pile) = record { tells = λ s h. grown-tells (UnionSound table (OptionSound pile)) (UnionShown (OptionShown pile)) (union-tells (options-show pile .tells)) s h }
   sound-shows (flatten source source-short source-growth source-stated t short g stated Q under chooser keeps source-pile pile) = record { tells = λ s h. grown-tells (FlatSound t (Standing t (Sound pile)) (Standing source (Sound source-pile))) (FlatShown (Shown source-pile) (Shown pile)) (flat-tells source t (sound-shows source-pile .tells) (sound-shows pile .tells)) s h }
 

@@ -16,7 +16,7 @@ use Rattle.std.specs.declared.option.Option.{Option}
 use Rattle.std.specs.declared.option.Option.the-variants.{None, Some}
 use Rattle.meaning.specs.Trees.{Steps, stays, Ends, SimplifyKept, ComplicateKept, Total, Keeps}
 use Rattle.meaning.specs.PlaceLaws.{always, placed-total, placed-keeps}
-use Rattle.meaning.specs.Sets.{SetTree, named, put-back, first-member, cleared, ran-past, clears-at, set-simplify, set-complicate, bare-set, set-steps}
+use Rattle.meaning.specs.Sets.{SetTree, named, with-noted, first-member, cleared, ran-past, clears-at, set-simplify, set-complicate, bare-set, set-steps}
 use Rattle.meaning.specs.SetLaws.{SetSound, set-sound}
 use Rattle.meaning.specs.Vectors.{members, joined}
 use Rattle.meaning.proofs.FirstMember.{first-is-member}
@@ -34,7 +34,7 @@ named-length item i (b ∷ bs) =
     let rest = named-length item (suc i) bs in
     simp length-append (omega (arith, here, rest))
 
-put-back-no-less : (bs : List Bool) (last : Option ℕ) → members bs ≤ members (put-back bs last)
+put-back-no-less : (bs : List Bool) (last : Option ℕ) → members bs ≤ members (with-noted bs last)
 put-back-no-less bs None = le-refl (members bs)
 put-back-no-less bs (Some i) = members-no-less bs i
 

@@ -10,7 +10,7 @@ use Prim.Native.Nat.{ℕ, zero, suc, _≤_, _<_}
 use native.Mathlib.Omega.{arith}
 use Rattle.meaning.specs.Trees.{Stepped, stays, Steps, ComplicateKept, Keeps}
 use Rattle.meaning.specs.Fuses.{FuseTree, fuse-simplified, fuse-complicated, disallow-complicate, fuse-steps, fuse-sound}
-use Rattle.meaning.specs.Flattens.{led-once, led}
+use Rattle.meaning.specs.Sifters.{settle-once, settle}
 use Rattle.meaning.specs.FlattenLaws.{Shut}
 use Rattle.meaning.proofs.FuseLaws.{fuse-keeps}
 
@@ -40,7 +40,7 @@ module _ {S I : Type 0} (t : Steps S I) where
     abbrev pub Home : FuseTree S → Type 0
     Home f = sound (f .inner) × Shut f
 
-    led-on : (n : ℕ) (f : FuseTree S) (next : FuseTree S → FuseTree S) → sound (f .inner) → fuse-steps t .back f ≤ n → ((now : FuseTree S) → sound (now .inner) → fuse-steps t .back now < n → Home (next now)) → Home (led-once (fuse-steps t) next f)
+    led-on : (n : ℕ) (f : FuseTree S) (next : FuseTree S → FuseTree S) → sound (f .inner) → fuse-steps t .back f ≤ n → ((now : FuseTree S) → sound (now .inner) → fuse-steps t .back now < n → Home (next now)) → Home (settle-once (fuse-steps t) (λ items. false) next f)
     led-on n f next is-sound enough home = by (r .answer) (fuse-keeps keeps .complicate f is-sound) (now-shut f)
       where
         r : Stepped (FuseTree S)
@@ -50,6 +50,6 @@ module _ {S I : Type 0} (t : Steps S I) where
         by true kept shut = let falls = kept .1 .1 in home (r .tree) (kept .0) (omega arith)
         by false kept shut = (kept .0, shut refl)
 
-    pub led-rests : (n : ℕ) (f : FuseTree S) → sound (f .inner) → fuse-steps t .back f ≤ n → Home (led (fuse-steps t) n f)
+    pub led-rests : (n : ℕ) (f : FuseTree S) → sound (f .inner) → fuse-steps t .back f ≤ n → Home (settle (fuse-steps t) (λ items. false) n f)
     led-rests zero f is-sound enough = led-on 0 f (λ last. last) is-sound enough (λ now still less. absurd (omega (arith, less)))
-    led-rests (suc n) f is-sound enough = led-on (suc n) f (led (fuse-steps t) n) is-sound enough (λ now still less. led-rests n now still (omega (arith, less)))
+    led-rests (suc n) f is-sound enough = led-on (suc n) f (settle (fuse-steps t) (λ items. false) n) is-sound enough (λ now still less. led-rests n now still (omega (arith, less)))

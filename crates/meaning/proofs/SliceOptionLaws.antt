@@ -14,9 +14,9 @@ use Rattle.draws.specs.declared.faults.GrowFault.{GrowFault}
 use Rattle.meaning.specs.Trees.{Steps, Keeps}
 use Rattle.meaning.specs.Growths.{Grows, Growth, Roots}
 use Rattle.meaning.specs.Tables.{change-at, slice-table, grow-at}
-use Rattle.meaning.specs.TableLaws.{Slot}
+use Rattle.meaning.specs.TableLaws.{Slot, Limited}
 use Rattle.meaning.specs.Lazies.{Lazy, lazy-start, lazy-steps, lazy-short, lazy-growth, lazy-wait}
-use Rattle.meaning.specs.LazyLaws.{Limited, lazy-sound, OptionsKeep, OptionsRoot}
+use Rattle.meaning.specs.LazyLaws.{lazy-sound, OptionsKeep, OptionsRoot}
 use Rattle.meaning.specs.SliceOptions.{slice-start, lacking-by-number, slice-options-short, slice-options-growth, slice-options-wait, slice-options-stated, slice-options-sound}
 use Rattle.meaning.proofs.Growing.{neither}
 use Rattle.meaning.proofs.SliceLaws.{slice-keeps, slice-apart, grow-at-place, grow-at-calm, grow-at-accepted}

@@ -19,7 +19,7 @@ use Rattle.draws.specs.declared.faults.RejectFault.the-variants.{NoneLeft}
 use Rattle.meaning.specs.Trees.{Steps, Total}
 use Rattle.meaning.specs.Growths.{Grown, Outcome, Grows, Growth, Rooted}
 use Rattle.meaning.specs.GrowthLaws.{reject-is-not-slots, Grew, no-slots, Grounds}
-use Rattle.meaning.specs.Sifters.{given-up, turned-down, judged, try-once, tries, tried, Accepted}
+use Rattle.meaning.specs.Sifters.{given-up, turned-down, by-rule, try-once, tries, tried, Accepted}
 
 -- a rooted tree whose candidate the rule accepts
 root-accepted : {S I : Type 0} (t : Steps S I) (sound : S → Type 0) (rule : List I → Bool) (s : S) → Rooted t sound s → rule (t .candidate s) ≡ true → Rooted t (Accepted t sound rule) s
@@ -50,7 +50,7 @@ module _ {S I P : Type 0} {t : Steps S I} {sound : S → Type 0} {short : P → 
     down-tried r s enough (Ok _) = later r s enough
     down-tried r s enough (Err fault) = up-tried fault r s
 
-    judged-tried : (o : Outcome X S) (answer : Grown) → short p (o .place) ≡ false → Grew t sound (stated p) (o .place) answer → Tried (o .runner) (o .place) (judged t rule next o answer)
+    judged-tried : (o : Outcome X S) (answer : Grown) → short p (o .place) ≡ false → Grew t sound (stated p) (o .place) answer → Tried (o .runner) (o .place) (by-rule t rule next o answer)
     judged-tried o (Err fault) enough grew = record { grew = grew; lasting = λ q. refl; calm = le-refl (o .runner .rejections) }
     judged-tried o (Ok _) enough (rooted, states) = cond-both (rule (t .candidate (o .place))) _ _ (Tried (o .runner) (o .place))
         (λ accepts. record { grew = (root-accepted t sound rule (o .place) rooted accepts, states); lasting = λ q. refl; calm = le-refl (o .runner .rejections) })
@@ -67,8 +67,8 @@ module _ {S I P : Type 0} {t : Steps S I} {sound : S → Type 0} {short : P → 
   tries-tried (suc n) = once-tried (tries t rule (g p X w) n) (tries-tried n)
 
   tries-told : (n : ℕ) (r : RunnerState X) (s : S) → short p s ≡ true → tries t rule (g p X w) n r s ≡ no-slots r s
-  tries-told zero r s few = ap (λ (o : Outcome X S). judged t rule (given-up t NoneLeft) o (o .answer)) (grounds .told p X w r s few)
-  tries-told (suc n) r s few = ap (λ (o : Outcome X S). judged t rule (tries t rule (g p X w) n) o (o .answer)) (grounds .told p X w r s few)
+  tries-told zero r s few = ap (λ (o : Outcome X S). by-rule t rule (given-up t NoneLeft) o (o .answer)) (grounds .told p X w r s few)
+  tries-told (suc n) r s few = ap (λ (o : Outcome X S). by-rule t rule (tries t rule (g p X w) n) o (o .answer)) (grounds .told p X w r s few)
 
 pub tried-grounds : {S I P : Type 0} {t : Steps S I} {sound : S → Type 0} {short : P → S → Bool} {g : Growth P S} {stated : P → ℕ} (rule : P → List I → Bool) → Total t →
     Grounds t (λ p. sound) short g stated → Grounds t (λ p. Accepted t sound (rule p)) short (λ p X w. tried t (rule p) (g p X w)) stated
@@ -88,7 +88,7 @@ module _ {X S I : Type 0} (t : Steps S I) (rule : List I → Bool) (grows : Grow
   down-same next other r s false same = refl
 
   judged-same : (next other : Grows X S) (o : Outcome X S) (answer : Grown) → ((r : RunnerState X) (s : S) → r .rejections < o .runner .rejections → next r s ≡ other r s) →
-      judged t rule next o answer ≡ judged t rule other o answer
+      by-rule t rule next o answer ≡ by-rule t rule other o answer
   judged-same next other o (Err fault) same = refl
   judged-same next other o (Ok _) same = ap (cond (rule (t .candidate (o .place))) (record { answer = Ok tt; runner = o .runner; place = o .place }))
       (down-same next other (rejected (o .runner)) (o .place) (ltb 0 (o .runner .rejections)) (λ left. same (rejected (o .runner)) (o .place) (omega (arith, ltb-true 0 (o .runner .rejections) left))))

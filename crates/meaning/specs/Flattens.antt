@@ -31,7 +31,8 @@ use Rattle.meaning.specs.Growths.{Grown, Outcome, Grows, Growth}
 use Rattle.meaning.specs.GrowthLaws.{unless-no-slots}
 use Rattle.meaning.specs.Offers.{Request, Offers, asked, offers-of}
 use Rattle.meaning.specs.Offers.Request.{regrow, spend}
-use Rattle.meaning.specs.Fuses.{FuseTree, fuse-replaced, disallow-complicate, fuse-steps}
+use Rattle.meaning.specs.Fuses.{FuseTree, fuse-replaced, fused, disallow-complicate, fuse-steps}
+use Rattle.meaning.specs.Sifters.{settled}
 
 pub record FlatTree (M S J : Type 0) : Type 0 where
   pub meta : FuseTree M
@@ -57,20 +58,9 @@ abbrev pub moves : {S : Type 0} → S → Stepped S
 moves s = record { answer = true; tree = s }
 
 -- a tree that was just grown, fused
-abbrev pub fresh : {S : Type 0} → S → FuseTree S
-fresh s = record { inner = s; may-simplify = true; may-complicate = false }
-
--- where complicate answered true, go on
-abbrev pub led-once : {S I : Type 0} → Steps S I → (S → S) → S → S
-led-once t next s = cond (t .complicate s .answer) (next (t .complicate s .tree)) (t .complicate s .tree)
-
--- steps back bounds how often
-abbrev pub led : {S I : Type 0} → Steps S I → ℕ → S → S
-led t zero s = led-once t (λ last. last) s
-led t (suc n) s = led-once t (led t n) s
-
+-- no candidate is accepted on the way
 abbrev pub led-home : {S I : Type 0} → Steps S I → S → S
-led-home t s = led t (t .back s) s
+led-home t = settled t (λ items. false)
 
 abbrev pub alone : {M S J : Type 0} → FlatTree M S J → FuseTree S → FlatTree M S J
 alone x current = with-runner (with-final (with-trees x (disallow-complicate (x .meta)) current) None) (x .runner) 0
@@ -93,12 +83,12 @@ module _ {M S J : Type 0} (source : Steps M J) where
 
   -- the source was simplified, and regrowth gave this
   abbrev pub another : FlatTree M S J → Option S → Stepped (FlatTree M S J)
-  another x (Some new) = moves (with-final (renewed x (fresh new) (x .cases)) (Some (disallow-complicate (x .current))))
+  another x (Some new) = moves (with-final (renewed x (fused new) (x .cases)) (Some (disallow-complicate (x .current))))
   another x None = stays (with-trees (renewed x (x .current) 0) (led-home (fuse-steps source) (x .meta)) (x .current))
 
   -- the source was complicated, and regrowth gave this
   abbrev pub returning : FlatTree M S J → Option S → Stepped (FlatTree M S J)
-  returning x (Some new) = moves (renewed x (fresh new) (x .cases))
+  returning x (Some new) = moves (renewed x (fused new) (x .cases))
   returning x None = at-last (renewed x (x .current) (x .remaining)) (x .final-complication)
 
 module _ {M S J I : Type 0} (source : Steps M J) (t : Steps S I) where
@@ -119,7 +109,7 @@ module _ {M S J I : Type 0} (source : Steps M J) (t : Steps S I) where
 
   -- a regeneration was used, and regrowth gave this
   abbrev pub once-more : FlatTree M S J → Option S → Stepped (FlatTree M S J)
-  once-more x (Some new) = moves (renewed source x (fresh new) (x .remaining))
+  once-more x (Some new) = moves (renewed source x (fused new) (x .remaining))
   once-more x None = further (renewed source x (x .current) (x .remaining))
 
   -- complicate, with so many regenerations remaining
@@ -163,14 +153,14 @@ pub record Chooser (Q J P S : Type 0) : Type 0 where
 
 -- after current: a runner is split off, or the place is blank over what the refused growth left
 abbrev pub current-grown : {X M S J : Type 0} → Words X → (RunnerState X → Offers J S) → ℕ → FlatTree M S J → Outcome X S → Grown → Outcome X (Place (FlatTree M S J))
-current-grown w offers longest x o (Ok _) = record { answer = Ok tt; runner = parted w (o .runner); place = record { grown = true; tree = record { meta = x .meta; current = fresh (o .place); final-complication = None; runner = offers (cloned w (o .runner)); remaining = 0; cases = o .runner .cases; longest = longest } } }
+current-grown w offers longest x o (Ok _) = record { answer = Ok tt; runner = parted w (o .runner); place = record { grown = true; tree = record { meta = x .meta; current = fused (o .place); final-complication = None; runner = offers (cloned w (o .runner)); remaining = 0; cases = o .runner .cases; longest = longest } } }
 current-grown w offers longest x o (Err fault) = record { answer = Err fault; runner = o .runner; place = record { grown = false; tree = with-trees x (x .meta) (fuse-replaced (x .current) (o .place)) } }
 
 -- after the source: current grows by what is chosen for its candidate
 abbrev pub source-grown : {X M S J P : Type 0} → Steps M J → Words X → (List J → P) → (P → Grows X S) → ℕ → FlatTree M S J → Outcome X M → Grown → Outcome X (Place (FlatTree M S J))
 source-grown source w choose grow longest x o (Ok _) =
     let chosen = grow (choose (source .candidate (o .place))) (o .runner) (x .current .inner) in
-    current-grown w (offers-of choose grow) longest (with-trees x (fresh (o .place)) (x .current)) chosen (chosen .answer)
+    current-grown w (offers-of choose grow) longest (with-trees x (fused (o .place)) (x .current)) chosen (chosen .answer)
 source-grown source w choose grow longest x o (Err fault) = record { answer = Err fault; runner = o .runner; place = record { grown = false; tree = with-trees x (fuse-replaced (x .meta) (o .place)) (x .current) } }
 
 abbrev pub flat-short : {M S J N P Q : Type 0} → (Q → N) → Chooser Q J P S → (N → M → Bool) → Q → Place (FlatTree M S J) → Bool

@@ -6,7 +6,8 @@
 --   disallow-simplify     no simplify until complicate answers true
 --   disallow-complicate   no complicate until simplify answers true: the candidate is made the home
 --   freeze                both, so that no step changes the tree again
---   fuse-growth           an accepted growth may be simplified, and not complicated; a refused one leaves both flags as they were
+--   fused                 a fuse as it is grown: it may be simplified, and not complicated
+--   fuse-growth           an accepted growth is fused; a refused one leaves both flags as they were
 --   fuse-short            whether the tree inside has too few slots
 --   fuse-sound            the tree inside is sound
 
@@ -51,11 +52,15 @@ disallow-complicate s = record { inner = s .inner; may-simplify = s .may-simplif
 abbrev pub freeze : {S : Type 0} → FuseTree S → FuseTree S
 freeze s = disallow-complicate (disallow-simplify s)
 
+-- as it is grown: it may be simplified, and not complicated
+abbrev pub fused : {S : Type 0} → S → FuseTree S
+fused inner = record { inner = inner; may-simplify = true; may-complicate = false }
+
 abbrev pub fuse-wrap : {Q S : Type 0} → Wrap Q S (FuseTree S)
 fuse-wrap = record {
   inside = λ s. s .inner;
   replaced = fuse-replaced;
-  fresh = λ q inner. record { inner = inner; may-simplify = true; may-complicate = false };
+  fresh = λ q inner. fused inner;
 }
 
 abbrev pub fuse-growth : {S P Q : Type 0} → (Q → P) → Growth P S → Growth Q (FuseTree S)

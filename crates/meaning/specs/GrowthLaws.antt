@@ -32,23 +32,23 @@ Gives Done Failed (Ok _) = Done
 Gives Done Failed (Err fault) = Failed (fault .cause)
 
 -- told apart by their shape
-abbrev is-accepted : Grown → Type 0
-is-accepted (Ok _) = Unit {0}
-is-accepted (Err fault) = ⊥
+abbrev IsOk : Grown → Type 0
+IsOk (Ok _) = Unit {0}
+IsOk (Err fault) = ⊥
 
-abbrev not-slots : Cause → Type 0
-not-slots Slots = ⊥
-not-slots (Draw fault) = Unit {0}
-not-slots (Reject fault) = Unit {0}
+abbrev HasFault : Cause → Type 0
+HasFault Slots = ⊥
+HasFault (Draw fault) = Unit {0}
+HasFault (Reject fault) = Unit {0}
 
 pub accepted-is-no-fault : {fault : GrowFault} → _≡_ {A = Grown} (Ok tt) (Err fault) → ⊥
-accepted-is-no-fault e = subst is-accepted e tt
+accepted-is-no-fault e = subst IsOk e tt
 
 pub reject-is-not-slots : {fault : RejectFault} → Reject fault ≡ Slots → ⊥
-reject-is-not-slots e = subst not-slots e tt
+reject-is-not-slots e = subst HasFault e tt
 
 pub draw-is-not-slots : {fault : DrawFault} → Draw fault ≡ Slots → ⊥
-draw-is-not-slots e = subst not-slots e tt
+draw-is-not-slots e = subst HasFault e tt
 
 -- the fault of a refusal, and another where there is none
 abbrev fault-or : GrowFault → Grown → GrowFault

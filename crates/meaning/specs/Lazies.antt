@@ -2,8 +2,8 @@
 --   Lazy          an option that waits for its growth, with what that will give; that is grown; or whose growth failed
 --   place-of      its place, which every option has
 --   is-accepted   whether a growth was accepted
---   promised      what an option that waits holds of its growth: whether it is accepted, and the tree then
---   tried         the option after its growth: initialized, or failed
+--   foreseen      what an option that waits holds of its growth: whether it is accepted, and the tree then
+--   started-as    the option after its growth: initialized, or failed
 --   lazy-start    the option, grown now if it still waits
 --   of-tree, step-tree   a reading and a step of an option: its tree's once initialized, else a default and no step
 --   lazy-steps    the steps of an option: those of its tree once initialized, and before that those of a blank place
@@ -39,14 +39,14 @@ abbrev pub is-accepted : Grown → Bool
 is-accepted (Ok _) = true
 is-accepted (Err fault) = false
 
-abbrev pub promised : {X S : Type 0} → Outcome X S → Stepped S
-promised o = record { answer = is-accepted (o .answer); tree = o .place }
+abbrev pub foreseen : {X S : Type 0} → Outcome X S → Stepped S
+foreseen o = record { answer = is-accepted (o .answer); tree = o .place }
 
-abbrev pub tried : {S : Type 0} → Stepped S → Lazy S
-tried grown = cond (grown .answer) (initialized (grown .tree)) (failed (grown .tree))
+abbrev pub started-as : {S : Type 0} → Stepped S → Lazy S
+started-as grown = cond (grown .answer) (initialized (grown .tree)) (failed (grown .tree))
 
 abbrev pub lazy-start : {S : Type 0} → Lazy S → Lazy S
-lazy-start (uninitialized s later) = tried later
+lazy-start (uninitialized s later) = started-as later
 lazy-start (initialized s) = initialized s
 lazy-start (failed s) = failed s
 
@@ -76,7 +76,7 @@ abbrev pub lazy-short : {S P : Type 0} → (P → S → Bool) → P → Lazy S �
 lazy-short short p x = short p (place-of x)
 
 abbrev pub lazy-grown : {X S : Type 0} → Outcome X S → Outcome X (Lazy S)
-lazy-grown o = record { answer = o .answer; runner = o .runner; place = tried (promised o) }
+lazy-grown o = record { answer = o .answer; runner = o .runner; place = started-as (foreseen o) }
 
 abbrev pub lazy-grows : {S P : Type 0} → Growth P S → Growth P (Lazy S)
 lazy-grows g p X w r x = lazy-grown (g p X w r (place-of x))
@@ -85,7 +85,7 @@ abbrev pub lazy-growth : {S P : Type 0} → (P → S → Bool) → Growth P S �
 lazy-growth short g = unless-no-slots (lazy-short short) (lazy-grows g)
 
 abbrev pub lazy-wait : {S P : Type 0} → Growth P S → P → (X : Type 0) → Words X → RunnerState X → Lazy S → Lazy S
-lazy-wait g p X w r x = uninitialized (place-of x) (promised (g p X w r (place-of x)))
+lazy-wait g p X w r x = uninitialized (place-of x) (foreseen (g p X w r (place-of x)))
 
 abbrev pub TableWait : Type 0 → Type 0 → Type 1
 TableWait P T = P → (X : Type 0) → Words X → ℕ → RunnerState X → T → T

@@ -1,5 +1,4 @@
 -- When a lazy option is sound, and the laws of a table of options, by their numbers.
---   Limited       a tree that is sound and states no more than a limit
 --   lazy-sound    what holds of an option's tree once it is grown, or will hold once it is; a failed one asks nothing
 --   OptionsKeep   options of a table keep their meaning under any limit on what they state, and so does starting one
 --   OptionsRoot   what growing an option now and what letting it wait keep
@@ -19,9 +18,6 @@ use Rattle.meaning.specs.Tables.{TableGrowth}
 use Rattle.meaning.specs.TableLaws.{Apart, TableKeeps}
 use Rattle.meaning.specs.Lazies.{Lazy, TableWait}
 use Rattle.meaning.specs.Lazies.Lazy.{uninitialized, initialized, failed}
-
-abbrev pub Limited : {S I : Type 0} → Steps S I → (S → Type 0) → ℕ → S → Type 0
-Limited t sound limit s = sound s × (t .longest s ≤ limit)
 
 abbrev pub lazy-sound : {S : Type 0} → (S → Type 0) → Lazy S → Type 0
 lazy-sound sound (uninitialized s later) = if-grown (later .answer) (sound (later .tree))

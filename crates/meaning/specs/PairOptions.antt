@@ -9,7 +9,8 @@ use Prim.Native.Nat.{ℕ, zero, suc}
 use Rattle.meaning.specs.Trees.{Steps}
 use Rattle.meaning.specs.Growths.{Growth}
 use Rattle.meaning.specs.Lazies.{Lazy, lazy-start, lazy-wait, TableWait}
-use Rattle.meaning.specs.LazyLaws.{Limited, lazy-sound}
+use Rattle.meaning.specs.TableLaws.{Limited}
+use Rattle.meaning.specs.LazyLaws.{lazy-sound}
 use Rattle.meaning.specs.Pairs.{Pair, first-part, rest-part, end-sound, pair-sound}
 
 abbrev pub end-start : ℕ → Unit {0} → Unit {0}

@@ -66,10 +66,10 @@ mutual
     array : {T I E : Type 0} (table : ℕ → Steps T I) (short : E → ℕ → T → Bool) (g : TableGrowth E T) (stated : E → ℕ → ℕ) (Q : Type 0) (elements : Q → E) (size : Q → ℕ)
         → TablePile T I E table short g stated
         → Pile (Place (ArrayTree T)) I Q (array-steps table) (λ q. array-short (short (elements q)) (stated (elements q)) (size q)) (array-growth elements size stated short g) (λ q. array-stated (stated (elements q)) (size q))
-    bits : {P : Type 0} (min max size : P → ℕ) → Pile (Place (SetTree ℕ)) ℕ P set-steps (λ p s. false) (bits-growth min max size) (bits-stated min max)
-    sampled : {P : Type 0} (min max size low high : P → ℕ) → ((p : P) → Sampleable (min p) (max p) (size p) (low p) (high p))
+    bit-sets : {P : Type 0} (min max size : P → ℕ) → Pile (Place (SetTree ℕ)) ℕ P set-steps (λ p s. false) (bits-growth min max size) (bits-stated min max)
+    sampled-sets : {P : Type 0} (min max size low high : P → ℕ) → ((p : P) → Sampleable (min p) (max p) (size p) (low p) (high p))
         → Pile (Place (SetTree ℕ)) ℕ P set-steps (λ p s. false) (sampled-growth min max size low high) high
-    subset : {P : Type 0} (start count low high : P → ℕ) → ((p : P) → Choosable (count p) (low p) (high p))
+    range-subsets : {P : Type 0} (start count low high : P → ℕ) → ((p : P) → Choosable (count p) (low p) (high p))
         → Pile (Place (SetTree ℕ)) ℕ P set-steps (λ p s. false) (subset-growth start count low high) high
     union : {T I E : Type 0} (table : ℕ → Steps T I) (start : ℕ → T → T) (short : E → ℕ → T → Bool) (g : TableGrowth E T) (wait : TableWait E T) (stated : E → ℕ → ℕ) (Q : Type 0) (options : Q → E) (weights : Q → List ℕ)
         → ((q : Q) → (0 < sum (weights q)) × (sum (weights q) < 2 ^ 64)) → OptionPile T I E table start short g wait stated
@@ -99,9 +99,9 @@ abbrev pub IfGrown : {S I : Type 0} → Steps S I → S → Type 0 → Type 0
 IfGrown t s A = t .grown s ≡ true → A
 
 -- the one item that a map gives is shown
-abbrev pub Gives : {J : Type 0} → Option J → List J → Type 0
-Gives None shown = ⊥
-Gives (Some item) shown = shown ≡ item ∷ []
+abbrev pub ShowsGiven : {J : Type 0} → Option J → List J → Type 0
+ShowsGiven None shown = ⊥
+ShowsGiven (Some item) shown = shown ≡ item ∷ []
 
 -- a vector that has at least its minimum of members, and of each element what it is to show
 abbrev pub VecShown : {T : Type 0} → (ℕ → T → Type 0) → VecTree T → Type 0
@@ -135,12 +135,12 @@ abbrev mutual
   Shown (fuse t short g stated Q under pile) s = Shown pile (s .inner)
   Shown (no-shrink t short g stated Q under pile) s = Shown pile s
   Shown (filter t short g stated Q under rule pile) s = IfGrown t (s .source) (s .fun (t .candidate (s .source)) ≡ true) × Shown pile (s .source)
-  Shown (filter-map t short g stated Q under map pile) s = IfGrown t (s .source) (Gives (s .fun (t .candidate (s .source))) (filter-map-steps t .candidate s)) × Shown pile (s .source)
+  Shown (filter-map t short g stated Q under map pile) s = IfGrown t (s .source) (ShowsGiven (s .fun (t .candidate (s .source))) (filter-map-steps t .candidate s)) × Shown pile (s .source)
   Shown (vec table short g stated Q elements low high sizes pile) s = WhereGrown (VecShown (ShownAt pile)) s
   Shown (array table short g stated Q elements size pile) s = WhereGrown (λ a. VecShown (ShownAt pile) (as-vector a)) s
-  Shown (bits min max size) s = Unit {0}
-  Shown (sampled min max size low high can) s = SetShown s
-  Shown (subset start count low high can) s = SetShown s
+  Shown (bit-sets min max size) s = Unit {0}
+  Shown (sampled-sets min max size low high can) s = SetShown s
+  Shown (range-subsets start count low high can) s = SetShown s
   Shown (union table start short g wait stated Q options weights weighed pile) s = WhereGrown (UnionShown (OptionShown pile)) s
   Shown (flatten source source-short source-growth source-stated t short g stated Q under chooser keeps source-pile pile) s = WhereGrown (FlatShown (Shown source-pile) (Shown pile)) s
 

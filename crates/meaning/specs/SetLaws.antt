@@ -15,7 +15,7 @@ use lib.ListN.{length}
 use Rattle.std.specs.shelf.Lists.{All}
 use Rattle.meaning.specs.Places.{Place}
 use Rattle.meaning.specs.PlaceLaws.{WhereGrown}
-use Rattle.meaning.specs.Sets.{SetTree, put-back}
+use Rattle.meaning.specs.Sets.{SetTree, with-noted}
 use Rattle.meaning.specs.Vectors.{members}
 
 abbrev pub Distinct : {I : Type 0} → (ℕ → I) → ℕ → Type 0
@@ -24,7 +24,7 @@ Distinct item n = (i j : ℕ) → i < n → j < n → item i ≡ item j → i �
 pub record SetSound {I : Type 0} (s : SetTree I) : Type 0 where
   pub enough : s .min-count ≤ members (s .included)
   pub distinct : Distinct (s .item) (length (s .included))
-  pub room : members (put-back (s .included) (s .prev-shrink)) ≤ s .longest
+  pub room : members (with-noted (s .included) (s .prev-shrink)) ≤ s .longest
 
 abbrev pub set-sound : {I : Type 0} → Place (SetTree I) → Type 0
 set-sound = WhereGrown SetSound

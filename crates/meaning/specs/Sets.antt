@@ -4,7 +4,7 @@
 --                 the longest
 --   fresh         a set as it is grown: nothing cleared yet
 --   named         the items of the included numbers, by number
---   put-back      the included numbers with a noted one included again
+--   with-noted    the included numbers with a noted one included again
 --   first-member  the first included number from number i on; where there is none, the set's end, or i itself past the end
 --   cleared       simplify cleared number i, and notes it
 --   ran-past      simplify found no member from the cursor on, and drops its note
@@ -45,9 +45,9 @@ fresh included item min-count shrink longest = record { included = included; ite
 abbrev pub named : {I : Type 0} → (ℕ → I) → List Bool → List I
 named item included = joined (λ i. item i ∷ []) 0 included
 
-abbrev pub put-back : List Bool → Option ℕ → List Bool
-put-back included None = included
-put-back included (Some i) = set included i true
+abbrev pub with-noted : List Bool → Option ℕ → List Bool
+with-noted included None = included
+with-noted included (Some i) = set included i true
 
 -- how many numbers lie before the first that is included
 abbrev pub skipped : List Bool → ℕ
@@ -72,12 +72,12 @@ set-simplify s = cond (ltb (s .min-count) (members (s .included))) (clears-at s 
 
 abbrev pub set-complicate : {I : Type 0} → SetTree I → Option ℕ → Stepped (SetTree I)
 set-complicate s None = stays s
-set-complicate s (Some i) = record { answer = true; tree = record { included = put-back (s .included) (Some i); item = s .item; min-count = s .min-count; shrink = s .shrink; prev-shrink = None; longest = s .longest } }
+set-complicate s (Some i) = record { answer = true; tree = record { included = with-noted (s .included) (Some i); item = s .item; min-count = s .min-count; shrink = s .shrink; prev-shrink = None; longest = s .longest } }
 
 abbrev pub bare-set : {I : Type 0} → Bare (SetTree I) I
 bare-set = record {
   candidate = λ s. named (s .item) (s .included);
-  home = λ s. named (s .item) (put-back (s .included) (s .prev-shrink));
+  home = λ s. named (s .item) (with-noted (s .included) (s .prev-shrink));
   back = λ s. how-many (s .prev-shrink);
   longest = λ s. s .longest;
   simplify = set-simplify;

@@ -6,7 +6,7 @@
 --   settled        complicate on the source until the rule accepts or complicate answers false; the bound is its steps back
 --   settled-step   a step of the source, settled where it answered true; it answers true even where it came all the way back
 --   sifter-steps   the steps of a sifter, which shows what its source does
---   judged         what comes of a try: its refusal; its tree, where the rule accepts; else a rejection, and the next try
+--   by-rule        what comes of a try: its refusal; its tree, where the rule accepts; else a rejection, and the next try
 --                  or, where no rejection was left, a refusal and a blank place
 --   tries          so many rejections at most; at the bound it still tries once
 --   tried          growing until the rule accepts a candidate or a refusal comes; the bound is the rejections left
@@ -73,14 +73,14 @@ abbrev pub turned-down : {X S I : Type 0} → Steps S I → Grows X S → Runner
 turned-down t next r s (Ok _) = next r s
 turned-down t next r s (Err fault) = given-up t fault r s
 
-abbrev pub judged : {X S I : Type 0} → Steps S I → (List I → Bool) → Grows X S → Outcome X S → Grown → Outcome X S
-judged t rule next o (Err fault) = record { answer = Err fault; runner = o .runner; place = o .place }
-judged t rule next o (Ok _) = cond (rule (t .candidate (o .place)))
+abbrev pub by-rule : {X S I : Type 0} → Steps S I → (List I → Bool) → Grows X S → Outcome X S → Grown → Outcome X S
+by-rule t rule next o (Err fault) = record { answer = Err fault; runner = o .runner; place = o .place }
+by-rule t rule next o (Ok _) = cond (rule (t .candidate (o .place)))
     (record { answer = Ok tt; runner = o .runner; place = o .place })
     (turned-down t next (rejected (o .runner)) (o .place) (rejection (o .runner .rejections)))
 
 abbrev pub try-once : {X S I : Type 0} → Steps S I → (List I → Bool) → Grows X S → Grows X S → Grows X S
-try-once t rule grows next r s = judged t rule next (grows r s) (grows r s .answer)
+try-once t rule grows next r s = by-rule t rule next (grows r s) (grows r s .answer)
 
 abbrev pub tries : {X S I : Type 0} → Steps S I → (List I → Bool) → Grows X S → ℕ → Grows X S
 tries t rule grows zero r s = try-once t rule grows (given-up t NoneLeft) r s

@@ -12,9 +12,9 @@ use Prim.Native.Nat.{ℕ, zero, suc}
 use Rattle.meaning.specs.Trees.{Steps}
 use Rattle.meaning.specs.Growths.{Growth}
 use Rattle.meaning.specs.Tables.{change-at, grow-at, TableGrowth}
-use Rattle.meaning.specs.TableLaws.{Slot}
+use Rattle.meaning.specs.TableLaws.{Slot, Limited}
 use Rattle.meaning.specs.Lazies.{Lazy, lazy-start, lazy-short, lazy-growth, lazy-wait, TableWait}
-use Rattle.meaning.specs.LazyLaws.{Limited, lazy-sound}
+use Rattle.meaning.specs.LazyLaws.{lazy-sound}
 
 abbrev pub slice-start : {S : Type 0} → ℕ → List (Lazy S) → List (Lazy S)
 slice-start i xs = change-at lazy-start xs i

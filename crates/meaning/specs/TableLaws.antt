@@ -1,5 +1,6 @@
 -- The laws of a table of trees, by their numbers.
 --   Standing     a tree that is sound and grown
+--   Limited      a tree that is sound and states no more than a limit
 --   Apart        a tree as it was before a call on another: its meaning, its longest, whether it is grown, its soundness
 --   TableTotal   every tree is total
 --   TableKeeps   every tree keeps its meaning, and a step of one leaves every other apart
@@ -22,6 +23,9 @@ use Rattle.meaning.specs.Tables.{TableGrowth}
 
 abbrev pub Standing : {S I : Type 0} → Steps S I → (S → Type 0) → S → Type 0
 Standing t sound s = sound s × (t .grown s ≡ true)
+
+abbrev pub Limited : {S I : Type 0} → Steps S I → (S → Type 0) → ℕ → S → Type 0
+Limited t sound limit s = sound s × (t .longest s ≤ limit)
 
 pub record Apart {S I : Type 0} (t : Steps S I) (sound : S → Type 0) (before now : S) : Type 0 where
   pub same-meant : meant t now ≡ meant t before
