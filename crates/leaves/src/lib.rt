@@ -1,3 +1,5 @@
 // The trees that hold no other tree.
 
+#![tactic(auto)]
+
 pub mod stair;

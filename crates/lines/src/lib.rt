@@ -3,6 +3,9 @@
 // A line is ASCII and ends with a line feed. A view is `v` and then each item in decimal after one space; a simplify or a
 // complicate is `s` or `c`, a space, and `1` for true or `0` for false; a refusal is `refused`, a space and its number, and,
 // where it names a line of the plan, a space and the number of that line.
+
+#![tactic(auto)]
+
 ghost use Rattle.std.specs.Prelude.{◌≡◌, ◌+◌, ◌-◌, ◌^◌, min, length};
 ghost use Rattle.lines.specs.Lines.{said, line_bytes, line_number, ending};
 ghost use Rattle.buffers.specs.Over.{laid, laid_from};

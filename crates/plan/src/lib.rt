@@ -1,4 +1,7 @@
 // Plans: a text of four lines, read into sizes, draws and steps.
+
+#![tactic(auto)]
+
 mod filled;
 mod line;
 mod number;

@@ -8,7 +8,7 @@
 
 use Rattle.std.proofs.Common.{◌≡◌, ℕ, zero, suc, ◌+◌, ◌-◌, ◌*◌, ◌^◌, ◌<◌, ◌≤◌, Bool, true, false, cond, ltb, List, [], ◌∷◌, ◌++◌, length, drop, replicate, IfOk, Some, None, Ok, Err, codes, Option, Result, refl, ap, mod-lt, arith, length-append, length-set, lt-ltb}
 use borrow.Author.Tests.{false-ltb}
-use Rattle.std.specs.List.{flat_map as each-joined, AllByRecursion as All}
+use Rattle.std.specs.List.{flat_map as each_joined, AllByRecursion as All}
 use Rattle.std.proofs.lemmas.Fmt.{decimal_digit}
 use Rattle.std.proofs.ByRecursion.{All-append}
 use Rattle.std.proofs.lemmas.Result.{IfOk-weaker}
@@ -57,7 +57,7 @@ digit_more xs ys a b = record {
 }
 
 -- each digit takes a space and itself
-length_spaced : (xs : List ℕ) → All Digit xs → length (each-joined spaced xs) ≡ 2 * length xs
+length_spaced : (xs : List ℕ) → All Digit xs → length (each_joined spaced xs) ≡ 2 * length xs
 length_spaced [] h = refl
 length_spaced (x ∷ xs) h =
     let one = ap length (decimal_digit x (let l = h.0 in omega (arith, l))) in

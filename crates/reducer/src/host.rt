@@ -6,10 +6,9 @@ ghost use Rattle.reducer.specs.Sessions.{session_bytes};
 
 use crate::session::run_plan;
 
-// For C: runs the session of a plan's text. Its lines go to the start of `out`, their length to `len`, and the answer is 0.
-// Where `out` is shorter than the lines the answer is 7, and `out` and `len` stay as they were.
-#[unsafe(no_mangle)]
-pub extern "C" fn reducer_session(plan: &[u8], out: &mut [u8], len: &mut usize) -> u32
+// For a host; the crate `reducer_c` exports it to C. Runs the session of a plan's text. Its lines go to the start of `out`, their
+// length to `len`, and the answer is 0. Where `out` is shorter than the lines the answer is 7, and `out` and `len` stay as they were.
+pub fn reducer_session(plan: &[u8], out: &mut [u8], len: &mut usize) -> u32
     ensures answer { result ≡ status (ending (length (session_bytes plan.now)) out.old) }
     ensures buffer { out.new ≡ laid (session_bytes plan.now) out.old }
     ensures length { len.new ≡ kept (ending (length (session_bytes plan.now)) out.old) len.old }

@@ -1,4 +1,6 @@
 // The session as a library, and for hosts in Rust or C.
 
+#![tactic(auto)]
+
 pub mod host;
 pub mod session;

@@ -1,10 +1,10 @@
 ghost use Rattle.std.specs.Prelude.{◌≡◌, ◌+◌, ◌≤◌, map, length, IfOk};
 ghost use Rattle.buffers.specs.Over.{over, over_from, laid};
-ghost use Rattle.lines.specs.Lines.{said as line-said, line_bytes, page as lines_of, ending};
+ghost use Rattle.lines.specs.Lines.{said as line_said, line_bytes, page as lines_of, ending};
 ghost use Rattle.lines.specs.Lines.Said.{simplified, complicated};
 ghost use Rattle.plan.specs.Said.{said};
 ghost use Rattle.reducer.specs.Sessions.{most_slots, turn, says, Few, begun, session_number, refusal, session, lengths, written, session_bytes, longest_page};
-ghost use Rattle.reducer.specs.declared.session.SessionFault.TheVariants.{Plan as plan-fault, Size as size-fault, Strategy as strategy-fault, Growth as growth-fault};
+ghost use Rattle.reducer.specs.declared.session.SessionFault.TheVariants.{Plan as plan_fault, Size as size_fault, Strategy as strategy_fault, Growth as growth_fault};
 ghost use Rattle.reducer.specs.States.{vector_state};
 
 use draws::faults::GrowFault;
@@ -41,8 +41,8 @@ impl SessionFault {
 
     // The line that a refused session prints.
     pub fn line(self) -> Line<'static>
-        ensures says { line-said result ≡ refusal self }
-        ensures short { length (line_bytes (line-said result)) ≤ 64 }
+        ensures says { line_said result ≡ refusal self }
+        ensures short { length (line_bytes (line_said result)) ≤ 64 }
     {
         match self {
             Self::Plan(fault) => Line::RefusedAt(fault.number(), u32::from(fault.line())),
@@ -52,7 +52,7 @@ impl SessionFault {
 }
 
 impl From<PlanFault> for SessionFault {
-    ghost from_gives = { λ f r. r ≡ plan-fault f };
+    ghost from_gives = { λ f r. r ≡ plan_fault f };
 
     fn from(fault: PlanFault) -> SessionFault {
         SessionFault::Plan(fault)
@@ -60,7 +60,7 @@ impl From<PlanFault> for SessionFault {
 }
 
 impl From<SizeFault> for SessionFault {
-    ghost from_gives = { λ f r. r ≡ size-fault f };
+    ghost from_gives = { λ f r. r ≡ size_fault f };
 
     fn from(fault: SizeFault) -> SessionFault {
         SessionFault::Size(fault)
@@ -68,7 +68,7 @@ impl From<SizeFault> for SessionFault {
 }
 
 impl From<StrategyFault> for SessionFault {
-    ghost from_gives = { λ f r. r ≡ strategy-fault f };
+    ghost from_gives = { λ f r. r ≡ strategy_fault f };
 
     fn from(fault: StrategyFault) -> SessionFault {
         SessionFault::Strategy(fault)
@@ -76,7 +76,7 @@ impl From<StrategyFault> for SessionFault {
 }
 
 impl From<GrowFault> for SessionFault {
-    ghost from_gives = { λ f r. r ≡ growth-fault f };
+    ghost from_gives = { λ f r. r ≡ growth_fault f };
 
     fn from(fault: GrowFault) -> SessionFault {
         SessionFault::Growth(fault)
@@ -99,9 +99,9 @@ fn begin<'a>(
 
 // Writes a line for which there is room, from `at` on, and answers the place behind it.
 fn put(line: Line<'_>, page: &mut [u8], at: usize) -> usize
-    requires { at + length (line_bytes (line-said line)) ≤ length page.old }
-    ensures end { result ≡ at + length (line_bytes (line-said line.entry)) }
-    ensures buffer { page.new ≡ over_from at (line_bytes (line-said line.entry)) page.old }
+    requires { at + length (line_bytes (line_said line)) ≤ length page.old }
+    ensures end { result ≡ at + length (line_bytes (line_said line.entry)) }
+    ensures buffer { page.new ≡ over_from at (line_bytes (line_said line.entry)) page.old }
 {
     match write_at(line, page, at) {
         Ok(end) => end,
@@ -110,21 +110,21 @@ fn put(line: Line<'_>, page: &mut [u8], at: usize) -> usize
 }
 
 fn simplified(moved: bool) -> Line<'static>
-    ensures { line-said result ≡ simplified moved }
+    ensures { line_said result ≡ simplified moved }
 {
     Line::Simplified(moved)
 }
 
 fn complicated(moved: bool) -> Line<'static>
-    ensures { line-said result ≡ complicated moved }
+    ensures { line_said result ≡ complicated moved }
 {
     Line::Complicated(moved)
 }
 
 // Makes one step and writes its line.
 fn answer<T: ValueTree<Item = u64>>(tree: &mut T, step: Step, page: &mut [u8], at: usize) -> usize
-    requires tree_len_bound { length (T.ValueTree.steps.candidate (T.ValueTree.state tree.old)) ≤ most_slots }
-    requires tree_in_bounds { at + length (line_bytes (turn T.ValueTree.steps step (T.ValueTree.state tree.old)).says) ≤ length page.old }
+    requires few { length (T.ValueTree.steps.candidate (T.ValueTree.state tree.old)) ≤ most_slots }
+    requires room { at + length (line_bytes (turn T.ValueTree.steps step (T.ValueTree.state tree.old)).says) ≤ length page.old }
     ensures tree { T.ValueTree.state tree.new ≡ (turn T.ValueTree.steps step (T.ValueTree.state tree.old)).leaves }
     ensures end { result ≡ at + length (line_bytes (turn T.ValueTree.steps step (T.ValueTree.state tree.old)).says) }
     ensures buffer { page.new ≡ over_from at (line_bytes (turn T.ValueTree.steps step (T.ValueTree.state tree.old)).says) page.old }
@@ -143,7 +143,7 @@ fn answer<T: ValueTree<Item = u64>>(tree: &mut T, step: Step, page: &mut [u8], a
 // Makes the steps and writes their lines, one after another, from the start of `page`.
 fn play<T: ValueTree<Item = u64>>(tree: &mut T, steps: &[Step], page: &mut [u8]) -> usize
     requires few { Few most_slots T.ValueTree.steps steps.now (T.ValueTree.state tree.old) }
-    requires tree_in_bounds { length (lines_of (says T.ValueTree.steps steps.now (T.ValueTree.state tree.old))) ≤ length page.old }
+    requires room { length (lines_of (says T.ValueTree.steps steps.now (T.ValueTree.state tree.old))) ≤ length page.old }
     ensures end { result ≡ length (lines_of (says T.ValueTree.steps steps.now (T.ValueTree.state tree.old))) }
     ensures buffer { page.new ≡ over (lines_of (says T.ValueTree.steps steps.now (T.ValueTree.state tree.old))) page.old }
 {

@@ -1,4 +1,6 @@
 // Reductions: from a failing list to a short one that still fails, and verdicts.
 
+#![tactic(auto)]
+
 pub mod reduce;
 pub mod verdicts;

@@ -1,5 +1,7 @@
 // Reads a plan from standard input, runs its session, and prints the session's lines.
 
+#![tactic(auto)]
+
 ghost use Rattle.std.specs.Prelude.{◌≤◌, length, IfOk};
 
 use anyhow::anyhow;

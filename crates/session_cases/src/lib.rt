@@ -1,4 +1,6 @@
 // Sessions of plans of every shape, compared with the lines that they should print.
 
+#![tactic(auto)]
+
 #[cfg(test)]
 mod tests;

@@ -4,7 +4,7 @@ ghost use Rattle.meaning.specs.Places.{Place};
 ghost use Rattle.buffers.specs.Over.{over};
 ghost use Rattle.meaning.specs.Readings.{counted, item_at};
 ghost use Rattle.meaning.specs.Vectors.{VecTree, vec_blank, joined, Walked, walk, vec_steps, grow_from, vec_making, vec_short, vec_stated, vec_growth};
-ghost use Rattle.meaning.specs.Piles.Pile.{vec as vec-pile};
+ghost use Rattle.meaning.specs.Piles.Pile.{vec as vec_pile};
 ghost use Rattle.vectors.specs.Members.{bits_of, vec_state};
 
 use crate::included::Included;
@@ -136,7 +136,7 @@ impl<B: Table> ValueTree for VecValueTree<B> {
 
     ghost stated = { λ p. vec_stated (B.Table.stated p.elements) p.size.high };
 
-    ghost pile = { vec-pile B.Table.rows B.Table.short B.Table.grows B.Table.stated _ (λ p. p.elements) (λ p. p.size.low) (λ p. p.size.high) (λ p. (p.size.ordered, p.few)) B.Table.pile };
+    ghost pile = { vec_pile B.Table.rows B.Table.short B.Table.grows B.Table.stated _ (λ p. p.elements) (λ p. p.size.low) (λ p. p.size.high) (λ p. (p.size.ordered, p.few)) B.Table.pile };
 
     fn is_grown(&self) -> bool {
         self.grown
@@ -231,7 +231,7 @@ pub struct VecStrategy<G> {
 
 impl<G: TableStrategy + Drop> VecStrategy<G> {
     pub fn new(elements: G, size: SizeRange) -> Result<VecStrategy<G>, StrategyFault>
-        ensures { MatchResult result (λ s. (vec_making size.high (Trees-as-Table.stated elements size.high) ≡ Ok tt) × (s.elements ≡ elements) × (s.size ≡ size)) (λ fault. vec_making size.high (Trees-as-Table.stated elements size.high) ≡ Err fault) }
+        ensures { MatchResult result (λ s. (vec_making size.high (G.Trees.Table.stated elements size.high) ≡ Ok tt) × (s.elements ≡ elements) × (s.size ≡ size)) (λ fault. vec_making size.high (G.Trees.Table.stated elements size.high) ≡ Err fault) }
     {
         let high = size.high();
         if high > 256 {

@@ -5,12 +5,12 @@ use Rattle.lines.proofs.words.lay_numbers.Goals as goal
 pub bounds-out-place : goal.bounds-out-place
 bounds-out-place c = search (rules, length_spaced_more)
 
-pub lay-number-place-requires : goal.lay-number-place-requires
-lay-number-place-requires c = search (rules, length_spaced_more)
+pub lay_number-place-requires : goal.lay_number-place-requires
+lay_number-place-requires c = search (rules, length_spaced_more)
 
 pub loop-n-preserved : goal.loop-n-preserved
 loop-n-preserved c =
-    rw (c.lay-number-place.ensures.behind, c.lay-number-place.ensures.buffer)
+    rw (c.lay_number-place.ensures.behind, c.lay_number-place.ensures.buffer)
     (lay_next c.loop-n.invariant c.loop-n-test.true)
 
 pub returns : goal.returns

@@ -16,25 +16,25 @@ ending-none k (b ∷ bs) plan none e f = let z : ⊥ = omega (arith, eqb-true (l
 both : {text : List ℕ} {answer : Result PlanText ℕ} → answer ≡ plan_of text → record { read : answer ≡ plan_of text; faithful : Faithful text answer }
 both e = record { read = e; faithful = faithful_at e }
 
-pub returns-in-default : goal.returns-in-default
+pub returns-in_default : goal.returns-in_default
 unfolding plan_of
-returns-in-default c = both (search rules)
+returns-in_default c = both (search rules)
 
-pub returns-in-default-high-in : goal.returns-in-default-high-in
+pub returns-in_default-high_in : goal.returns-in_default-high_in
 unfolding plan_of
-returns-in-default-high-in c = both (search rules)
+returns-in_default-high_in c = both (search rules)
 
-pub returns-in-default-draws-in : goal.returns-in-default-draws-in
+pub returns-in_default-draws_in : goal.returns-in_default-draws_in
 unfolding plan_of
-returns-in-default-draws-in c = both (search rules)
+returns-in_default-draws_in c = both (search rules)
 
-pub returns-in-default-steps-in : goal.returns-in-default-steps-in
+pub returns-in_default-steps_in : goal.returns-in_default-steps_in
 unfolding plan_of
-returns-in-default-steps-in c = both (search rules)
+returns-in_default-steps_in c = both (search rules)
 
-pub returns-then-not-is-empty : goal.returns-then-not-is-empty
+pub returns-then-not-is_empty : goal.returns-then-not-is_empty
 unfolding plan_of
-returns-then-not-is-empty c = both (search (rules, ending-more))
+returns-then-not-is_empty c = both (search (rules, ending-more))
 
 pub returns : goal.returns
 unfolding plan_of

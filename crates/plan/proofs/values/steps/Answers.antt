@@ -6,22 +6,22 @@ use Rattle.plan.proofs.values.steps.Goals as goal
 pub loop-letter-init : goal.loop-letter-init
 loop-letter-init c = starts _ c.args.value.now c.empty-steps.ensures
 
-pub returns-in-err-of-letter : goal.returns-in-err-of-letter
-returns-in-err-of-letter c =
-    rw c.from-residual.ensures
+pub returns-in_err-of_letter : goal.returns-in_err-of_letter
+returns-in_err-of_letter c =
+    rw c.from_residual.ensures
     (stops_unread c.loop-letter.invariant (drop_more c.args.value.now c.loop-letter.letter-index 0 c.loop-letter-test.true)
-    c.in-err-of-letter.ensures)
+    c.in_err-of_letter.ensures)
 
-pub returns-in-err-push : goal.returns-in-err-push
-returns-in-err-push c =
-    rw c.from-residual-in-err-push.ensures
+pub returns-in_err-push : goal.returns-in_err-push
+returns-in_err-push c =
+    rw c.from_residual-in_err-push.ensures
     (stops_full c.loop-letter.invariant (drop_more c.args.value.now c.loop-letter.letter-index 0 c.loop-letter-test.true)
-    c.in-err-push.ensures.room)
+    c.in_err-push.ensures.room)
 
 pub loop-letter-preserved : goal.loop-letter-preserved
 loop-letter-preserved c =
     goes_on c.loop-letter.invariant (drop_more c.args.value.now c.loop-letter.letter-index 0 c.loop-letter-test.true)
-    c.in-ok-of-letter.ensures c.in-ok-push.ensures.kept
+    c.in_ok-of_letter.ensures c.in_ok-push.ensures.kept
 
 pub returns : goal.returns
 returns c =

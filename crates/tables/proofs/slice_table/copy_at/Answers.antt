@@ -5,8 +5,8 @@ use Rattle.tables.proofs.slice_table.copy_at.Goals as goal
 
 pub returns-then-i-slots : goal.returns-then-i-slots
 returns-then-i-slots g c = record {
-  count = c.copy-to.ensures.count ∙ read_slot g.T.ValueTree.state g.T.ValueTree.steps.candidate [] (λ xs. min (length xs) (length c.args.buf.now)) c.args.slots.now c.args.i c.index-slots-i.result c.if-i-slots.true c.index-slots-i.is;
-  buffer = c.copy-to.ensures.buffer ∙ read_slot g.T.ValueTree.state g.T.ValueTree.steps.candidate [] (λ xs. over xs c.args.buf.now) c.args.slots.now c.args.i c.index-slots-i.result c.if-i-slots.true c.index-slots-i.is;
+  count = c.copy_to.ensures.count ∙ read_slot g.T.ValueTree.state g.T.ValueTree.steps.candidate [] (λ xs. min (length xs) (length c.args.buf.now)) c.args.slots.now c.args.i c.index-slots-i.result c.if-i-slots.true c.index-slots-i.is;
+  buffer = c.copy_to.ensures.buffer ∙ read_slot g.T.ValueTree.state g.T.ValueTree.steps.candidate [] (λ xs. over xs c.args.buf.now) c.args.slots.now c.args.i c.index-slots-i.result c.if-i-slots.true c.index-slots-i.is;
 }
 
 pub returns-else-i-slots : goal.returns-else-i-slots

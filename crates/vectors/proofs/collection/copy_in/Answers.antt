@@ -8,7 +8,7 @@ loop-i-preserved g c =
     let n = c.len-i-end.ensures.value in
     let h = c.loop-i-test.true in
     elim c.if-test.branch [
-      | then-test w ↦ rw (w.n-is, w.buf-is) (copy_here c.loop-i.invariant (omega (arith, n, h)) (sym w.if-test.ensures) _ (w.copy-at-n.ensures.count ∙ ap (λ (zs : List _). min (length ((g.B.Table.rows c.loop-i.i).candidate (g.B.Table.state c.args.elements.now))) (length zs)) (rest_lent c.loop-i.n c.loop-i.buf)) _ (rest_written c.loop-i.n c.loop-i.buf _ _ w.copy-at-n.ensures.buffer))
+      | then-test w ↦ rw (w.n-is, w.buf-is) (copy_here c.loop-i.invariant (omega (arith, n, h)) (sym w.if-test.ensures) _ (w.copy_at-n.ensures.count ∙ ap (λ (zs : List _). min (length ((g.B.Table.rows c.loop-i.i).candidate (g.B.Table.state c.args.elements.now))) (length zs)) (rest_lent c.loop-i.n c.loop-i.buf)) _ (rest_written c.loop-i.n c.loop-i.buf _ _ w.copy_at-n.ensures.buffer))
       | else-test w ↦ rw (w.n-is, w.buf-is) (copy_skip c.loop-i.invariant (omega (arith, n, h)) (sym w.if-test.ensures))
     ]
 

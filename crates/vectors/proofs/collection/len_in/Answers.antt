@@ -8,7 +8,7 @@ loop-i-preserved g c =
     let n = c.len-i-end.ensures.value in
     let h = c.loop-i-test.true in
     elim c.if-test.branch [
-      | then-test w ↦ rw w.n-is (count_here c.loop-i.invariant (omega (arith, n, h)) (sym w.if-test.ensures) _ (let k = w.len-at.ensures in let a = w.saturating-add-n.ensures in omega (arith, k, a)))
+      | then-test w ↦ rw w.n-is (count_here c.loop-i.invariant (omega (arith, n, h)) (sym w.if-test.ensures) _ (let k = w.len_at.ensures in let a = w.saturating_add-n.ensures in omega (arith, k, a)))
       | else-test w ↦ rw w.n-is (count_skip c.loop-i.invariant (omega (arith, n, h)) (sym w.if-test.ensures))
     ]
 
