@@ -78,5 +78,5 @@ fn one_line_after_another(rt: HostRuntime) {
         numbered(write_at(Line::Complicated(true), &mut out, 13)),
         Err(7)
     );
-    assert!(rt; &out[0..] == b"v 5 70\ns 1\n\xaa");
+    assert!(rt; &out[0..] == b"v 5 70\ns 1\n\xaa".as_slice());
 }

@@ -8,7 +8,7 @@
 use Rattle.std.proofs.Common.{◌≡◌, ℕ, suc, ◌+◌, ◌<◌, ◌≤◌, Bool, true, false, ltb, List, [], ◌∷◌, length, set, Some, None, Option, refl, le_refl, arith, length-set}
 use mathlib.Core.Bool.{false≢true}
 use Rattle.std.proofs.lemmas.Bool.{cond_both}
-use Rattle.std.specs.List.{AllByRecursion as All}
+use Rattle.std.specs.List.{AllByRecursion}
 use Rattle.meaning.specs.Trees.{Stepped, stays}
 use Rattle.meaning.specs.Places.{Place}
 use Rattle.meaning.specs.Sets.{SetTree, first_member, cleared, ran_past, clears_at, set_complicate, set_steps}
@@ -21,7 +21,7 @@ module _ {I : Type 0} (item : ℕ → I) where
   abbrev shown : ℕ → List Bool → List I
   shown = joined (λ i. item i ∷ [])
 
-  shown_fit : (Fit : I → Type 0) (i : ℕ) (bs : List Bool) → ((j : ℕ) → i ≤ j → j < i + length bs → Fit (item j)) → All Fit (shown i bs)
+  shown_fit : (Fit : I → Type 0) (i : ℕ) (bs : List Bool) → ((j : ℕ) → i ≤ j → j < i + length bs → Fit (item j)) → AllByRecursion Fit (shown i bs)
   shown_fit Fit i [] fits = tt
   shown_fit Fit i (true ∷ bs) fits = (fits i (le_refl i) (omega arith), shown_fit Fit (suc i) bs (λ j from below. fits j (omega arith) (omega arith)))
   shown_fit Fit i (false ∷ bs) fits = shown_fit Fit (suc i) bs (λ j from below. fits j (omega arith) (omega arith))
@@ -81,7 +81,7 @@ module _ {I : Type 0} where
     abbrev Names : SetTree I → Type 0
     Names s = Naming Fit (place true s)
 
-    fitting_at : (grown : Bool) (s : SetTree I) → Naming Fit (place grown s) → All Fit (set_steps.candidate (place grown s))
+    fitting_at : (grown : Bool) (s : SetTree I) → Naming Fit (place grown s) → AllByRecursion Fit (set_steps.candidate (place grown s))
     fitting_at true s names = shown_fit s.item Fit 0 s.included (λ j from below. names j (omega arith))
     fitting_at false s names = tt
 
@@ -105,7 +105,7 @@ module _ {I : Type 0} where
     complicate_names_at true s names = complicated_names s s.prev_shrink names
     complicate_names_at false s names = tt
 
-    pub set_shows_fitting : (s : Place (SetTree I)) → Naming Fit s → All Fit (set_steps.candidate s)
+    pub set_shows_fitting : (s : Place (SetTree I)) → Naming Fit s → AllByRecursion Fit (set_steps.candidate s)
     set_shows_fitting s = fitting_at s.grown s.tree
 
     pub simplify_names : (s : Place (SetTree I)) → Naming Fit s → Naming Fit (set_steps.simplify s).tree

@@ -9,7 +9,7 @@
 --   Choosable   what a range subset needs to choose its numbers: as many as the highest size, in 64 bits
 
 use Rattle.std.specs.Prelude.{◌≡◌, ℕ, ◌+◌, ◌-◌, ◌^◌, ◌<◌, ◌≤◌, List, [], ◌∷◌, length, ◌≢◌}
-use Rattle.std.specs.List.{AllByRecursion as All}
+use Rattle.std.specs.List.{AllByRecursion}
 use Rattle.meaning.specs.Places.{Place}
 use Rattle.meaning.specs.PlaceLaws.{WhereGrown}
 use Rattle.meaning.specs.Sets.{SetTree, with_noted}
@@ -34,7 +34,7 @@ Naming Fit = WhereGrown (λ s. (i : ℕ) → i < length s.included → Fit (s.it
 
 abbrev pub Once : {I : Type 0} → List I → Type 0
 Once [] = Unit {0}
-Once (x ∷ xs) = All (λ y. y ≢ x) xs × Once xs
+Once (x ∷ xs) = AllByRecursion (λ y. y ≢ x) xs × Once xs
 
 pub record Sampleable (min max size low high : ℕ) : Type 0 where
   pub sizes : low ≤ high

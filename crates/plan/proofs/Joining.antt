@@ -1,6 +1,6 @@
 -- Pieces put together, and cut again.
 use Rattle.std.proofs.Common.{◌≡◌, ℕ, ◌<◌, false, eqb, List, [], ◌∷◌, ◌++◌, length, sym, refl, ap, ◌∙◌, arith}
-use Rattle.std.specs.List.{AllByRecursion as All}
+use Rattle.std.specs.List.{AllByRecursion}
 use Rattle.std.proofs.lemmas.List.{length-append}
 use Rattle.std.proofs.lemmas.Bool.{eq-eqb, eqb-true, ne_eqb, cond_both}
 use Rattle.plan.specs.Parts.{cut, pieces, onto, join}
@@ -9,7 +9,7 @@ use Rattle.plan.proofs.Cutting.{pieces_whole, pieces_parted}
 
 -- a text of bytes above the mark
 abbrev pub Above : ℕ → List ℕ → Type 0
-Above mark text = All (λ b. mark < b) text
+Above mark text = AllByRecursion (λ b. mark < b) text
 
 module _ (mark : ℕ) where
   pub cut_past : (text rest : List ℕ) → Above mark text → cut mark (text ++ (mark ∷ rest)) ≡ parted text rest
@@ -20,7 +20,7 @@ module _ (mark : ℕ) where
   cut_nowhere [] h = refl
   cut_nowhere (b ∷ bs) h = let e : eqb b mark ≡ false = ne_eqb b mark (λ z. omega (arith, h.0)) in rw (e, cut_nowhere bs h.1)
 
-  pub pieces_join : (p : List ℕ) (ps : List (List ℕ)) → All (Above mark) (p ∷ ps) → pieces mark (join mark (p ∷ ps)) ≡ p ∷ ps
+  pub pieces_join : (p : List ℕ) (ps : List (List ℕ)) → AllByRecursion (Above mark) (p ∷ ps) → pieces mark (join mark (p ∷ ps)) ≡ p ∷ ps
   pieces_join p [] h = pieces_whole mark p (sym (cut_nowhere p h.0))
   pieces_join p (q ∷ qs) h =
       pieces_parted mark (join mark (p ∷ (q ∷ qs))) (sym (cut_past p (join mark (q ∷ qs)) h.0))

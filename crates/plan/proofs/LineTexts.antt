@@ -1,6 +1,6 @@
 -- The readers of lines accept just the lines of sizes, draws and steps within the bounds.
 use Rattle.std.proofs.Common.{◌≡◌, ℕ, ◌<◌, ◌≤◌, Bool, true, false, cond, ◌&&◌, ltb, List, [], ◌∷◌, ◌++◌, map, Some, None, codes, decimal, Option, sym, refl, ap, ◌∙◌, ⊎_elim, arith, lit<}
-use Rattle.std.specs.List.{AllByRecursion as All}
+use Rattle.std.specs.List.{AllByRecursion}
 use Rattle.std.specs.Str.{bytes_eq}
 use Rattle.std.proofs.ByRecursion.{All-append, All-weaker, Decides-by_and}
 use Rattle.std.proofs.lemmas.Slice.Eq.{bytes_eq-Decides}
@@ -114,7 +114,7 @@ over_feed text h = All-weaker (λ b. 32 < b) (λ b. 10 < b) (λ b k. omega arith
 size_above : (n : ℕ) → n ≤ largest_size → Above 10 (decimal n)
 size_above n h = over_feed (decimal n) (decimal_above n (omega arith))
 
-join_above : (ps : List (List ℕ)) → All (Above 32) ps → Above 10 (join 32 ps)
+join_above : (ps : List (List ℕ)) → AllByRecursion (Above 32) ps → Above 10 (join 32 ps)
 join_above [] h = tt
 join_above (p ∷ []) h = over_feed p h.0
 join_above (p ∷ (q ∷ qs)) h = All-append (λ b. 10 < b) p (32 ∷ join 32 (q ∷ qs)) (over_feed p h.0) (lit< tt, join_above (q ∷ qs) h.1)

@@ -2,7 +2,7 @@
 use Rattle.std.proofs.Common.{◌≡◌, ℕ, ◌^◌, ◌<◌, ◌≤◌, true, ◌&&◌, eqb, leb, List, [], ◌∷◌, length, get_or, Some, decimal, sym, refl, ap, ◌∙◌, ⊎_elim, arith}
 use Rattle.std.specs.Str.Parse.{digits_value as value}
 use Rattle.std.specs.Char.{is_ascii_digit}
-use Rattle.std.specs.List.{AllByRecursion as All}
+use Rattle.std.specs.List.{AllByRecursion}
 use Rattle.std.specs.Str.{all_ascii_digits}
 use Rattle.std.proofs.lemmas.Fmt.{decimal_digit, decimal_nonempty, first_decimal, decimal-digits_value, digits_decimal, digits_value-decimal}
 use Rattle.std.proofs.lemmas.Str.Parse.{IsNumeralModel, numerals_by_value, tells_all_ascii_digits}
@@ -55,10 +55,10 @@ number_spells most fits = record { only = only; every = every }
         let same : value 10 (decimal n) ≡ n = digits_value-decimal own n small in
         number_at most (decimal n) (unpadded_decimal n small) (digits_decimal own n small) (rw same h) ∙ ap (λ x. Some x) same
 
-digits_above : (ds : List ℕ) → all_ascii_digits ds ≡ true → All (λ b. 32 < b) ds
+digits_above : (ds : List ℕ) → all_ascii_digits ds ≡ true → AllByRecursion (λ b. 32 < b) ds
 digits_above [] e = tt
 digits_above (c ∷ cs) e = let t = and_parts (is_ascii_digit c) (all_ascii_digits cs) e in (grind (arith, nat_tests, t.0), digits_above cs t.1)
 
 -- no byte of a decimal is a space or a line feed
-pub decimal_above : (n : ℕ) → n < 2 ^ 64 → All (λ b. 32 < b) (decimal n)
+pub decimal_above : (n : ℕ) → n < 2 ^ 64 → AllByRecursion (λ b. 32 < b) (decimal n)
 decimal_above n h = digits_above (decimal n) (digits_decimal own n h)

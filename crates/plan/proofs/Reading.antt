@@ -1,6 +1,6 @@
 -- `plan_of` is faithful: it accepts just the texts of plans within the bounds, and names the first wrong line of any other.
 use Rattle.std.proofs.Common.{◌≡◌, ℕ, suc, ◌<◌, List, [], ◌∷◌, length, drop, Some, None, Ok, Err, Option, Result, sym, refl, ap, ◌∙◌, subst, add-one, arith}
-use Rattle.std.specs.List.{AllByRecursion as All}
+use Rattle.std.specs.List.{AllByRecursion}
 use Rattle.std.proofs.lemmas.List.{drop-drop}
 use Rattle.plan.specs.Faithful.{lines, Writes, Opens, PlanPart, place, Right, FirstWrong, Faithful, earlier}
 use Rattle.plan.specs.Faithful.PlanPart.{low_line, high_line, draws_line, steps_line, end}
@@ -89,7 +89,7 @@ module _ (text : List ℕ) where
   record Reached (parts : List PlanPart) (front : List ℕ → List ℕ) (rest : List ℕ) : Type 0 where
     split : text ≡ front rest
     left : drop (length parts) (lines text) ≡ lines rest
-    right : All (λ p. Right p text) parts
+    right : AllByRecursion (λ p. Right p text) parts
 
   -- the next part is a line
   line_tells : {A : Type 0} {reads : Line → Option A} {write : A → List ℕ} {Fine : A → Type 0} (form : Form reads write Fine)

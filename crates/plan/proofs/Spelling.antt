@@ -1,6 +1,6 @@
 -- Readers that accept just what is written for their values.
 use Rattle.std.proofs.Common.{◌≡◌, ℕ, ◌≤◌, Bool, true, false, cond, leb, List, [], ◌∷◌, map, length, Some, None, Option, sym, refl, ap, ◌∙◌, arith}
-use Rattle.std.specs.List.{AllByRecursion as All}
+use Rattle.std.specs.List.{AllByRecursion}
 use Rattle.std.proofs.lemmas.Bool.{le-leb, leb-true}
 use Rattle.plan.specs.Gather.{each, at_most, first_of}
 
@@ -60,7 +60,7 @@ first_of_some (Some y) None xs e = none_some xs e
 first_of_some (Some y) (Some ys) xs e = (y, (ys, refl, refl, cc))
 
 module _ {A B : Type 0} {read : A → Option B} {write : B → A} {Fine : B → Type 0} (s : Spells read write Fine) where
-  each_only : (source : List A) (xs : List B) → each read source ≡ Some xs → (source ≡ map write xs) × All Fine xs
+  each_only : (source : List A) (xs : List B) → each read source ≡ Some xs → (source ≡ map write xs) × AllByRecursion Fine xs
   each_only [] [] e = (refl, tt)
   each_only [] (x ∷ xs) e = clash (cc)
   each_only (a ∷ source) xs e =
@@ -69,9 +69,9 @@ module _ {A B : Type 0} {read : A → Option B} {write : B → A} {Fine : B → 
       let more = each_only source p.1.0 p.1.2 in
       rw p.1.3 (rw (← here.0, ← more.0) refl, (here.1, more.1))
 
-  each_every : (xs : List B) → All Fine xs → each read (map write xs) ≡ Some xs
+  each_every : (xs : List B) → AllByRecursion Fine xs → each read (map write xs) ≡ Some xs
   each_every [] h = refl
   each_every (x ∷ xs) h = rw (s.every x h.0, each_every xs h.1)
 
-  pub each_spells : Spells (each read) (map write) (All Fine)
+  pub each_spells : Spells (each read) (map write) (AllByRecursion Fine)
   each_spells = record { only = each_only; every = each_every }

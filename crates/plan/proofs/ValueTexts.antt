@@ -1,6 +1,6 @@
 -- The readers of values accept just the texts of sizes, draws and steps within the bounds.
 use Rattle.std.proofs.Common.{◌≡◌, ℕ, ◌<◌, ◌≤◌, List, [], ◌∷◌, map, length, Some, decimal, refl, ◌∙◌, arith}
-use Rattle.std.specs.List.{AllByRecursion as All}
+use Rattle.std.specs.List.{AllByRecursion}
 use Rattle.std.proofs.lemmas.Fmt.{decimal_nonempty}
 use Rattle.std.proofs.ByRecursion.{All-map, All-weaker}
 use Rattle.std.proofs.lemmas.Bool.Decides.{nat_tests}
@@ -24,7 +24,7 @@ words_some : (value : List ℕ) → 0 < length value → words_of value ≡ piec
 words_some [] h = let z : ⊥ = omega arith in absurd z
 words_some (b ∷ bs) h = refl
 
-pub decimals_above : (ns : List ℕ) → All (λ n. n ≤ largest_draw) ns → All (Above 32) (map decimal ns)
+pub decimals_above : (ns : List ℕ) → AllByRecursion (λ n. n ≤ largest_draw) ns → AllByRecursion (Above 32) (map decimal ns)
 decimals_above ns h = All-map (Above 32) decimal ns (All-weaker (λ n. n ≤ largest_draw) (λ n. Above 32 (decimal n)) (λ n k. decimal_above n (omega arith)) ns h)
 
 join_words : (ns : List ℕ) → FewDraws ns → words_of (join 32 (map decimal ns)) ≡ map decimal ns
@@ -51,7 +51,7 @@ step_spells = record { only = λ c s e. (only c s e, tt); every = λ s _. every 
     every Simplify = refl
     every Complicate = refl
 
-all_unit : {A : Type 0} (xs : List A) → All (λ _. Unit {0}) xs
+all_unit : {A : Type 0} (xs : List A) → AllByRecursion (λ _. Unit {0}) xs
 all_unit [] = tt
 all_unit (x ∷ xs) = (tt, all_unit xs)
 

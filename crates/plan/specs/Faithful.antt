@@ -11,7 +11,7 @@
 --                         every plan within the bounds is the answer to its text (every);
 --                         where line k is the answer, it is the first wrong one (refused)
 use Rattle.std.specs.Prelude.{◌≡◌, ℕ, suc, ◌≤◌, List, [], ◌∷◌, length, drop, Ok, Err, Result}
-use Rattle.std.specs.List.{AllByRecursion as All}
+use Rattle.std.specs.List.{AllByRecursion}
 use Rattle.plan.specs.Parts.{pieces}
 use Rattle.plan.specs.Plans.{PlanText}
 use Rattle.plan.specs.Texts.{low_text, high_text, draws_text, steps_text, plan_text, FewDraws, FewSteps, Within}
@@ -56,7 +56,7 @@ pub record FirstWrong (k : ℕ) (text : List ℕ) : Type 0 where
   pub part : PlanPart
   pub here : place part ≡ k
   pub wrong : Right part text → ⊥
-  pub before : All (λ p. Right p text) (earlier part)
+  pub before : AllByRecursion (λ p. Right p text) (earlier part)
 
 pub record Faithful (text : List ℕ) (answer : Result PlanText ℕ) : Type 0 where
   pub accepted : (p : PlanText) → answer ≡ Ok p → (text ≡ plan_text p) × Within p

@@ -6,7 +6,7 @@
 --     FewDraws, FewSteps  the draws, and the steps, keep their bounds
 --     Within p            the plan p keeps every bound
 use Rattle.std.specs.Prelude.{ℕ, ◌≤◌, List, [], ◌∷◌, ◌++◌, map, length, codes, decimal}
-use Rattle.std.specs.List.{AllByRecursion as All}
+use Rattle.std.specs.List.{AllByRecursion}
 use Rattle.plan.specs.Parts.{join}
 use Rattle.plan.specs.Plans.{PlanText}
 use Rattle.plan.specs.Values.{largest_size, largest_draw, most_draws, most_steps}
@@ -41,7 +41,7 @@ plan_text p =
     (closed (steps_text p.steps) [])))
 
 abbrev pub FewDraws : List ℕ → Type 0
-FewDraws ns = (length ns ≤ most_draws) × All (λ n. n ≤ largest_draw) ns
+FewDraws ns = (length ns ≤ most_draws) × AllByRecursion (λ n. n ≤ largest_draw) ns
 
 abbrev pub FewSteps : List Step → Type 0
 FewSteps ss = length ss ≤ most_steps

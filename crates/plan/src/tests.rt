@@ -65,13 +65,13 @@ fn values(rt: HostRuntime) -> Result<(), Fail> {
     };
     assert_eq!(rt; plan.low(), 1);
     assert_eq!(rt; plan.high(), 3);
-    assert!(rt; plan.draws() == &[2, 5, 7, 4]);
+    assert!(rt; plan.draws() == [2, 5, 7, 4].as_slice());
     assert!(rt; same_steps(plan.steps(), b"vsvcsssvccv"));
     let Ok(plan) = read_plan(b"low=64\nhigh=0\ndraws=18446744073709551615\nsteps=\n") else {
         return Err(Fail::new("the largest values are refused"));
     };
     assert_eq!(rt; plan.low(), 64);
-    assert!(rt; plan.draws() == &[u64::MAX]);
+    assert!(rt; plan.draws() == [u64::MAX].as_slice());
     assert_eq!(rt; plan.steps().len(), 0);
     Ok(())
 }
@@ -81,8 +81,8 @@ fn one_line(rt: HostRuntime) -> Result<(), Fail> {
     let PlanLine::Draws { key, value } = read_line(b"draws=1=2") else {
         return Err(Fail::new("the line is not one of draws"));
     };
-    assert!(rt; key == b"draws");
-    assert!(rt; value == b"1=2");
+    assert!(rt; key == b"draws".as_slice());
+    assert!(rt; value == b"1=2".as_slice());
     let PlanLine::Wrong = read_line(b"=1") else {
         return Err(Fail::new("a line with no key is not wrong"));
     };

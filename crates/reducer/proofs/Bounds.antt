@@ -8,7 +8,7 @@
 
 use Rattle.std.proofs.Common.{◌≡◌, ℕ, zero, suc, ◌+◌, ◌-◌, ◌*◌, ◌^◌, ◌<◌, ◌≤◌, Bool, true, false, cond, ltb, List, [], ◌∷◌, ◌++◌, length, drop, replicate, IfOk, Some, None, Ok, Err, codes, Option, Result, refl, ap, mod-lt, arith, length-append, length-set, lt-ltb}
 use borrow.Author.Tests.{false-ltb}
-use Rattle.std.specs.List.{flat_map as each_joined, AllByRecursion as All}
+use Rattle.std.specs.List.{flat_map as each_joined, AllByRecursion}
 use Rattle.std.proofs.lemmas.Fmt.{decimal_digit}
 use Rattle.std.proofs.ByRecursion.{All-append}
 use Rattle.std.proofs.lemmas.Result.{IfOk-weaker}
@@ -40,7 +40,7 @@ Digit n = n ≤ 9
 
 record Digits (most : ℕ) (xs : List ℕ) : Type 0 where
   few : length xs ≤ most
-  each : All Digit xs
+  each : AllByRecursion Digit xs
 
 no_digits : (most : ℕ) → Digits most []
 no_digits most = record { few = omega arith; each = tt }
@@ -57,7 +57,7 @@ digit_more xs ys a b = record {
 }
 
 -- each digit takes a space and itself
-length_spaced : (xs : List ℕ) → All Digit xs → length (each_joined spaced xs) ≡ 2 * length xs
+length_spaced : (xs : List ℕ) → AllByRecursion Digit xs → length (each_joined spaced xs) ≡ 2 * length xs
 length_spaced [] h = refl
 length_spaced (x ∷ xs) h =
     let one = ap length (decimal_digit x (let l = h.0 in omega (arith, l))) in
@@ -130,17 +130,17 @@ bounded_stair = bounded_placed {P = Low} bare_stair (record {
 -- a tree of a slice: its steps keep what holds of every slot
 
 module _ {S : Type 0} {most : ℕ} {P : S → Type 0} (t : Steps S ℕ) (k : BoundedSteps most P t) where
-  shown_at : (xs : List S) (i : ℕ) → All P xs → Digits most (at t.candidate [] xs i)
+  shown_at : (xs : List S) (i : ℕ) → AllByRecursion P xs → Digits most (at t.candidate [] xs i)
   shown_at [] i h = no_digits most
   shown_at (x ∷ xs) zero h = k.shows x h.0
   shown_at (x ∷ xs) (suc i) h = shown_at xs i h.1
 
-  all_changed : (f : S → S) → ((s : S) → P s → P (f s)) → (xs : List S) (i : ℕ) → All P xs → All P (change_at f xs i)
+  all_changed : (f : S → S) → ((s : S) → P s → P (f s)) → (xs : List S) (i : ℕ) → AllByRecursion P xs → AllByRecursion P (change_at f xs i)
   all_changed f keeps [] i h = tt
   all_changed f keeps (x ∷ xs) zero h = (keeps x h.0, h.1)
   all_changed f keeps (x ∷ xs) (suc i) h = (h.0, all_changed f keeps xs i h.1)
 
-  bounded_slot : (i : ℕ) → BoundedSteps most (All P) (slice_table t i)
+  bounded_slot : (i : ℕ) → BoundedSteps most (AllByRecursion P) (slice_table t i)
   bounded_slot i = record {
     shows = λ xs h. shown_at xs i h;
     simplifies = λ xs h. all_changed (λ s. (t.simplify s).tree) k.simplifies xs i h;
@@ -225,7 +225,7 @@ low_grown : {X : Type 0} (p : Place StairTree) (r : RunnerState X) (d : Result �
 low_grown p r (Ok v) h l = record { shown = h; home = h }
 low_grown p r (Err fault) h l = l
 
-grows_slot : {X S : Type 0} {P : S → Type 0} (g : Grows X S) → Leaves P g → (i : ℕ) → Leaves (All P) (grow_at g i)
+grows_slot : {X S : Type 0} {P : S → Type 0} (g : Grows X S) → Leaves P g → (i : ℕ) → Leaves (AllByRecursion P) (grow_at g i)
 grows_slot g keeps i r [] h = tt
 grows_slot g keeps zero r (x ∷ xs) h = (keeps r x h.0, h.1)
 grows_slot g keeps (suc i) r (x ∷ xs) h = (h.0, grows_slot g keeps i r xs h.1)
@@ -272,7 +272,7 @@ module _ {X T : Type 0} {Q : T → Type 0} (g : ℕ → Grows X T) (keeps : (i :
 -- the session's vector
 
 abbrev SmallVector : Vector → Type 0
-SmallVector v = Small most_slots (All LowSlot) v.tree
+SmallVector v = Small most_slots (AllByRecursion LowSlot) v.tree
 
 bounded_session : BoundedSteps most_slots SmallVector vector
 bounded_session = bounded_vector (slice_table stair_steps) (bounded_slot stair_steps bounded_stair) most_slots
@@ -313,7 +313,7 @@ small_begun plan v l s = either_way (ltb plan.high plan.low) refl
     either_way true e = s
     either_way false e = small_made plan v making s (small_growth plan v (false-ltb plan.high plan.low e) l s)
 
-all_replicate : {S : Type 0} (P : S → Type 0) (n : ℕ) (x : S) → P x → All P (replicate n x)
+all_replicate : {S : Type 0} (P : S → Type 0) (n : ℕ) (x : S) → P x → AllByRecursion P (replicate n x)
 all_replicate P zero x h = tt
 all_replicate P (suc n) x h = (h, all_replicate P n x h)
 
