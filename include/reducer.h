@@ -1,7 +1,6 @@
 /* The reducer's session as a C function.
  *
- * `rt staticlib reducer` writes target/staticlib/libreducer.a. Link it and the kit's C support library,
- * lib/librattle_c.a in the folder of the toolchain; host/build shows how.
+ * `sh host/lib FOLDER` writes FOLDER/libreducer.a. Link it; host/build shows how.
  */
 #ifndef REDUCER_H
 #define REDUCER_H

@@ -4,12 +4,11 @@ use Rattle.std.proofs.Common.{◌≡◌, ℕ, Bool, true, false, ltb, List, [], 
 use Rattle.meaning.specs.declared.reduction.End.{End}
 use Rattle.meaning.specs.declared.reduction.End.TheVariants.{Passes, Ended, Spent}
 use Rattle.meaning.specs.declared.reduction.ReduceFault.TheVariants.{TooShort, NoBudget, Blank}
-use Rattle.meaning.specs.Trees.{Steps}
 use Rattle.meaning.specs.Places.{Place}
 use Rattle.meaning.specs.Stairs.{StairTree, stair_steps}
 use Rattle.meaning.specs.Reductions.{Report, Happening, Event, reduction, refusal}
 use Rattle.meaning.specs.Reductions.Happening.{simplify, complicate, reading, verdict, refused, start, report}
-use Rattle.meaning.specs.Runs.{Call, report_of, history}
+use Rattle.meaning.specs.Runs.{report_of, history}
 use Rattle.meaning.specs.Runs.Call.{simplifying, complicating, looking, reducing}
 
 abbrev stair : Bool → Place StairTree

@@ -9,7 +9,7 @@
 --   sampled         the bits of a sampled bit set: a draw of how many, from low to high, then so many of its bits
 --   sampled_growth  a sampled bit set, which keeps its lowest size
 
-use Rattle.std.specs.Prelude.{ℕ, zero, suc, ◌-◌, Bool, true, false, cond, List, set, replicate, Ok, nat_lt, slice_set}
+use Rattle.std.specs.Prelude.{ℕ, zero, suc, ◌-◌, Bool, true, false, cond, List, replicate, Ok, nat_lt, slice_set}
 use Rattle.draws.specs.Draws.{drawn, answered}
 use Rattle.draws.specs.Runners.{RunnerState, advanced}
 use Rattle.draws.specs.Sources.{Words, word}

@@ -14,7 +14,7 @@
 --   draw_on       growing goes on with what a draw gives, or stops at its fault
 --   set_grown     the outcome for a set's place of growing what the set is made of
 
-use Rattle.std.specs.Prelude.{ℕ, suc, ◌+◌, Bool, true, false, cond, List, [], ◌∷◌, length, drop, set, Some, None, Ok, Err, Option, Result, nat_lt, slice_set}
+use Rattle.std.specs.Prelude.{ℕ, suc, ◌+◌, Bool, true, false, cond, List, [], ◌∷◌, length, drop, Some, None, Ok, Err, Option, Result, nat_lt, slice_set}
 use Rattle.draws.specs.Runners.{RunnerState}
 use Rattle.draws.specs.declared.faults.DrawFault.{DrawFault}
 use Rattle.meaning.specs.Trees.{Stepped, stays, Steps}
