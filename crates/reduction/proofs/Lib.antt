@@ -1,2 +1,4 @@
+mod Giving
 mod Looping
+mod Playing
 mod Holding

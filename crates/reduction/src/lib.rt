@@ -3,4 +3,5 @@
 #![tactic(auto)]
 
 pub mod reduce;
+pub mod trial;
 pub mod verdicts;

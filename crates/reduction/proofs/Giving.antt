@@ -1,10 +1,9 @@
 -- What a reduction gives: its result lies in the first items of the buffer, as far as that goes.
 
-use Rattle.std.proofs.Common.{◌≡◌, ℕ, zero, suc, min, Bool, true, false, cond, List, [], ◌∷◌, length, take, sym, subst, arith}
+use Rattle.std.proofs.Common.{◌≡◌, ℕ, zero, suc, min, Bool, true, false, cond, List, [], length, take, sym, subst, arith}
 use Rattle.buffers.specs.Over.{over}
 use Rattle.buffers.proofs.Overs.{length_over, take_none, take_over}
-use Rattle.meaning.specs.declared.reduction.End.{End}
-use Rattle.meaning.specs.Trees.{Stepped, Steps}
+use Rattle.meaning.specs.Trees.{Steps}
 use Rattle.meaning.specs.Reductions.{still, Reduction, preceded, by_step, judged, reduction, copied}
 use Rattle.meaning.specs.Reductions.Happening.{simplify, complicate, verdict}
 

@@ -1,6 +1,7 @@
 -- What a trial does: it grows a tree and makes the calls of a script, and a witness is told each event of their history.
 --   called     the call that an entry of the script asks for; a reduction has the room of the result buffer
 --   left_by    the tree that some events leave
+--   roomy      a witness that is told of a report what the result buffer has room for
 --   heard      a witness after some events: it hears each in turn, with the candidate after it
 --   Left       what some calls leave: the tree, the result buffer, the witness
 --   leaves     what a history leaves: the tree after its last event, in the buffer each list that failed, copied over the first
@@ -8,11 +9,12 @@
 --   Tried      what a trial answers and leaves
 --   tried      growth, and where it is accepted what the history of the script's calls leaves
 
-use Rattle.std.specs.Prelude.{ℕ, Bool, List, [], ◌∷◌, Ok, Err}
+use Rattle.std.specs.Prelude.{ℕ, Bool, List, [], ◌∷◌, take, Ok, Err}
 use Rattle.draws.specs.Runners.{RunnerState}
 use Rattle.meaning.specs.Trees.{Steps}
 use Rattle.meaning.specs.Growths.{Grown, Outcome}
 use Rattle.meaning.specs.Reductions.{Happening, Event, copied}
+use Rattle.meaning.specs.Reductions.Happening.{simplify, complicate, reading, verdict, refused, start, report}
 use Rattle.meaning.specs.Runs.{Call, history}
 use Rattle.meaning.specs.Runs.Call.{simplifying, complicating, looking, reducing}
 use Rattle.reduction.specs.declared.trial.Call.{Call as Entry}
@@ -22,11 +24,21 @@ abbrev pub called : {V I : Type 0} → (V → List I → Bool) → ℕ → Entry
 called judges room Simplify = simplifying
 called judges room Complicate = complicating
 called judges room Look = looking
-called judges room (Reduce verdict budget) = reducing (judges verdict) budget room
+called judges room (Reduce judge budget) = reducing (judges judge) budget room
 
 abbrev pub left_by : {S I : Type 0} → S → List (Event S I) → S
 left_by s [] = s
 left_by s (e ∷ h) = left_by e.after h
+
+-- what a reduction gave is told as far as the result buffer goes
+abbrev pub roomy : {I W : Type 0} → ℕ → (W → Happening I → List I → W) → W → Happening I → List I → W
+roomy room hears w (report r) shown = hears w (report (record { end = r.end; verdicts = r.verdicts; result = take room r.result })) shown
+roomy room hears w (simplify answer) shown = hears w (simplify answer) shown
+roomy room hears w (complicate answer) shown = hears w (complicate answer) shown
+roomy room hears w reading shown = hears w reading shown
+roomy room hears w (verdict failed) shown = hears w (verdict failed) shown
+roomy room hears w (refused fault) shown = hears w (refused fault) shown
+roomy room hears w (start budget) shown = hears w (start budget) shown
 
 abbrev pub heard : {S I W : Type 0} → Steps S I → (W → Happening I → List I → W) → List (Event S I) → W → W
 heard t hears [] w = w

@@ -96,7 +96,7 @@ impl<'a> Witness<u64> for Printer<'a> {
         self.note(said);
     }
 
-    fn hear_report<T: ValueTree<Item = u64>>(&mut self, report: Reduced, res: &[u64], tree: &T) {
+    fn hear_report<T: ValueTree<Item = u64>>(&mut self, report: Reduced, buffer: &[u64], tree: &T) {
         let rt = self.rt;
         let verdicts = report.verdicts;
         let how = match report.end {
@@ -104,8 +104,8 @@ impl<'a> Witness<u64> for Printer<'a> {
             End::Ended => "ended",
             End::Spent => "spent",
         };
-        let length = report.length.min(res.len());
-        let items = Items(&res[0..length]);
+        let length = report.length.min(buffer.len());
+        let items = Items(&buffer[0..length]);
         self.note(println!(rt;
             "{how} after {verdicts} verdicts; the last list that failed:{items}"
         ));

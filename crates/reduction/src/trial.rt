@@ -2,7 +2,7 @@ ghost use Rattle.std.specs.Prelude.{◌≡◌, [], ◌∷◌, map, length};
 ghost use Rattle.draws.specs.Runners.{run};
 ghost use Rattle.meaning.specs.Piles.{Promise};
 ghost use Rattle.meaning.specs.Runs.{history};
-ghost use Rattle.reduction.specs.Trials.{called, leaves, tried};
+ghost use Rattle.reduction.specs.Trials.{roomy, called, leaves, tried};
 
 use crate::reduce::reduce_before;
 use draws::faults::GrowFault;
@@ -24,10 +24,10 @@ pub enum Call<V> {
 fn play<T: ValueTree, V: Verdict<T::Item>, W: Witness<T::Item>>(
     tree: &mut T,
     call: &Call<V>,
-    res: &mut [T::Item],
+    buffer: &mut [T::Item],
     witness: &mut W,
 )
-    ensures { record { tree = T.ValueTree.state tree.exit.now; buffer = res.new; witness = W.Witness.state witness.new } ≡ leaves T.ValueTree.steps W.Witness.hears (history T.ValueTree.steps (called V.Verdict.judges (length res.old) call.now ∷ []) (T.ValueTree.state tree.entry.now)) (T.ValueTree.state tree.entry.now) res.old (W.Witness.state witness.old) }
+    ensures { record { tree = T.ValueTree.state tree.new; buffer = buffer.new; witness = W.Witness.state witness.new } ≡ leaves T.ValueTree.steps (roomy (length buffer.old) W.Witness.hears) (history T.ValueTree.steps (called V.Verdict.judges (length buffer.old) call.now ∷ []) (T.ValueTree.state tree.old)) (T.ValueTree.state tree.old) buffer.old (W.Witness.state witness.old) }
 {
     match call {
         Call::Simplify => {
@@ -40,7 +40,7 @@ fn play<T: ValueTree, V: Verdict<T::Item>, W: Witness<T::Item>>(
         }
         Call::Look => witness.hear(Notice::Looked, tree),
         Call::Reduce(verdict, budget) => {
-            let _ = reduce_before(tree, verdict, *budget, res, witness);
+            let _ = reduce_before(tree, verdict, *budget, buffer, witness);
         }
     }
 }
@@ -49,13 +49,13 @@ fn play<T: ValueTree, V: Verdict<T::Item>, W: Witness<T::Item>>(
 fn play_all<T: ValueTree, V: Verdict<T::Item>, W: Witness<T::Item>>(
     tree: &mut T,
     script: &[Call<V>],
-    res: &mut [T::Item],
+    buffer: &mut [T::Item],
     witness: &mut W,
 )
-    ensures { record { tree = T.ValueTree.state tree.exit.now; buffer = res.new; witness = W.Witness.state witness.new } ≡ leaves T.ValueTree.steps W.Witness.hears (history T.ValueTree.steps (map (called V.Verdict.judges (length res.old)) script.now) (T.ValueTree.state tree.entry.now)) (T.ValueTree.state tree.entry.now) res.old (W.Witness.state witness.old) }
+    ensures { record { tree = T.ValueTree.state tree.new; buffer = buffer.new; witness = W.Witness.state witness.new } ≡ leaves T.ValueTree.steps (roomy (length buffer.old) W.Witness.hears) (history T.ValueTree.steps (map (called V.Verdict.judges (length buffer.old)) script.now) (T.ValueTree.state tree.old)) (T.ValueTree.state tree.old) buffer.old (W.Witness.state witness.old) }
 {
     for call in script {
-        play(tree, call, res, witness);
+        play(tree, call, buffer, witness);
     }
 }
 
@@ -73,13 +73,13 @@ pub fn trial<
     runner: &mut TestRunner<D>,
     place: &mut S::Tree,
     script: &[Call<V>],
-    res: &mut [<S::Tree as ValueTree>::Item],
+    buffer: &mut [<S::Tree as ValueTree>::Item],
     witness: &mut W,
 ) -> Result<(), GrowFault>
     ensures promise { Promise S.Tree.ValueTree.pile strategy.now D.Source.State D.Source.words (run D.Source.state runner.old) (S.Tree.ValueTree.state place.old) }
-    ensures did { record { answer = result; runner = run D.Source.state runner.new; left = record { tree = S.Tree.ValueTree.state place.new; buffer = res.new; witness = W.Witness.state witness.new } } ≡ tried S.Tree.ValueTree.steps W.Witness.hears (map (called V.Verdict.judges (length res.old)) script.now) (S.Tree.ValueTree.grows strategy.now D.Source.State D.Source.words (run D.Source.state runner.old) (S.Tree.ValueTree.state place.old)) res.old (W.Witness.state witness.old) }
+    ensures did { record { answer = result; runner = run D.Source.state runner.new; left = record { tree = S.Tree.ValueTree.state place.new; buffer = buffer.new; witness = W.Witness.state witness.new } } ≡ tried S.Tree.ValueTree.steps (roomy (length buffer.old) W.Witness.hears) (map (called V.Verdict.judges (length buffer.old)) script.now) (S.Tree.ValueTree.grows strategy.now D.Source.State D.Source.words (run D.Source.state runner.old) (S.Tree.ValueTree.state place.old)) buffer.old (W.Witness.state witness.old) }
 {
     strategy.new_tree(runner, place)?;
-    play_all(place, script, res, witness);
+    play_all(place, script, buffer, witness);
     Ok(())
 }
