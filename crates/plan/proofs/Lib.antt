@@ -7,4 +7,4 @@ mod Numerals
 mod Joining
 mod ValueTexts
 mod LineTexts
-pub mod Reading
+mod Reading

@@ -1,4 +1,5 @@
 mod Giving
 mod Looping
 mod Playing
+mod Fitting
 mod Holding

@@ -7,7 +7,7 @@
 --   leaves     what a history leaves: the tree after its last event, in the buffer each list that failed, copied over the first
 --              items, and the witness that heard it
 --   Tried      what a trial answers and leaves
---   tried      growth, and where it is accepted what the history of the script's calls leaves
+--   tried      growth, and where it is accepted what the history of the script's calls leaves; `by_growth`, by growth's answer
 
 use Rattle.std.specs.Prelude.{ℕ, Bool, List, [], ◌∷◌, take, Ok, Err}
 use Rattle.draws.specs.Runners.{RunnerState}

@@ -77,7 +77,7 @@ pub fn trial<
     witness: &mut W,
 ) -> Result<(), GrowFault>
     ensures promise { Promise S.Tree.ValueTree.pile strategy.now D.Source.State D.Source.words (run D.Source.state runner.old) (S.Tree.ValueTree.state place.old) }
-    ensures did { record { answer = result; runner = run D.Source.state runner.new; left = record { tree = S.Tree.ValueTree.state place.new; buffer = buffer.new; witness = W.Witness.state witness.new } } ≡ tried S.Tree.ValueTree.steps (roomy (length buffer.old) W.Witness.hears) (map (called V.Verdict.judges (length buffer.old)) script.now) (S.Tree.ValueTree.grows strategy.now D.Source.State D.Source.words (run D.Source.state runner.old) (S.Tree.ValueTree.state place.old)) buffer.old (W.Witness.state witness.old) }
+    ensures did { record { answer = result; runner = run D.Source.state runner.new; left = record { tree = S.Tree.ValueTree.state place.new; buffer = buffer.new; witness = W.Witness.state witness.new } } ≡ tried S.Tree.ValueTree.steps W.Witness.hears (map (called V.Verdict.judges (length buffer.old)) script.now) (S.Tree.ValueTree.grows strategy.now D.Source.State D.Source.words (run D.Source.state runner.old) (S.Tree.ValueTree.state place.old)) buffer.old (W.Witness.state witness.old) }
 {
     strategy.new_tree(runner, place)?;
     play_all(place, script, buffer, witness);

@@ -111,7 +111,7 @@ fn refused(
     rt: &impl Abort,
     grown: bool,
     budget: u32,
-    res: &mut [u64],
+    buffer: &mut [u64],
     number: u32,
 ) -> Result<(), Fail> {
     let mut slots = [Stair::place(); 3];
@@ -120,14 +120,14 @@ fn refused(
         grow_three(rt, &mut tree)?;
     }
     let before = tree.len();
-    match reduce(&mut tree, &MoreThan::new(0), budget, res) {
+    match reduce(&mut tree, &MoreThan::new(0), budget, buffer) {
         Ok(_) => {
             assert!(rt; false);
             return Ok(())
         },
         Err(fault) => assert_eq!(rt; fault.number(), number),
     }
-    assert!(rt; all_nine(res));
+    assert!(rt; all_nine(buffer));
     assert!(rt; tree.is_grown() == grown);
     assert_eq!(rt; tree.len(), before);
     Ok(())

@@ -88,7 +88,7 @@ fn copy_in<B: Table>(elements: &B, included: &Included, buf: &mut [B::Item]) -> 
 
 // Simplifies the members from number `from` on, until one answers true: where it stopped, and whether one did.
 fn walk_in<B: Table>(elements: &mut B, included: &Included, from: usize) -> (usize, bool)
-    ensures { record { elements = B.Table.state elements.exit.now; place = result.0; found = result.1 } ≡ walk B.Table.rows (drop from (bits_of included.now)) from (B.Table.state elements.entry.now) }
+    ensures { record { elements = B.Table.state elements.new; place = result.0; found = result.1 } ≡ walk B.Table.rows (drop from (bits_of included.now)) from (B.Table.state elements.old) }
 {
     let mut ix = from;
     while ix < included.len() {
