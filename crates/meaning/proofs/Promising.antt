@@ -2,6 +2,7 @@
 
 use Rattle.std.proofs.Common.{◌≡◌, ℕ, zero, suc, ◌+◌, ◌<◌, ◌≤◌, Bool, true, false, cond, eqb, ltb, List, [], ◌∷◌, ◌++◌, length, Some, None, Option, sym, refl, ap, ◌∙◌, subst, le_refl, arith, length-append}
 use borrow.Author.Tests.{eqb-false}
+use Rattle.std.proofs.lemmas.Bool.{ltb-false}
 use Rattle.meaning.specs.declared.reduction.End.{End}
 use Rattle.meaning.specs.declared.reduction.End.TheVariants.{Passes, Spent}
 use Rattle.meaning.specs.declared.reduction.ReduceFault.{ReduceFault}
@@ -79,8 +80,8 @@ last_failed_more : {I : Type 0} (d : List I) (js : List (Judged I)) (j : Judged 
 last_failed_more d [] j = refl
 last_failed_more d (i ∷ js) j = last_failed_more (cond i.failed i.list d) js j
 
-record Law {S I : Type 0} (t : Steps S I) (sound : S → Type 0) (n : ℕ) (so_far : List I) (s : S) (r : Reduction S I) : Type 0 where
-  sound_left : sound r.left
+pub record Law {S I : Type 0} (t : Steps S I) (sound : S → Type 0) (n : ℕ) (so_far : List I) (s : S) (r : Reduction S I) : Type 0 where
+  pub sound_left : sound r.left
   within : verdicts r.own ≤ n
   at_home : IsSpent r.end → t.home r.left ≡ r.result
   goes : (h : List (Event S I)) → Good t sound r.left h → Good t sound s (r.own ++ h)
@@ -175,21 +176,23 @@ module _ {S I : Type 0} {t : Steps S I} {sound : S → Type 0} (k : Keeps t soun
       (λ f. law_later n (t.candidate s) (t.simplify s).tree (k.simplify s o).0 f)
       (λ f. law_later n result (t.complicate s).tree (k.complicate s o).0 f))
 
-  law_whole : (n : ℕ) (s : S) → sound s → 0 < n → Law t sound n [] s (reduction t fails n true [] s)
+  pub law_whole : (n : ℕ) (s : S) → sound s → 0 < n → Law t sound n [] s (reduction t fails n true [] s)
   law_whole zero s o l = absurd (omega (arith, l))
   law_whole (suc n) s o l =
       law_verdict t sound n (fails (t.candidate s)) [] s _ o
       (law_judged_first n (fails (t.candidate s)) s _ _ o
       (λ f. law_later n (t.candidate s) (t.simplify s).tree (k.simplify s o).0 f))
 
--- an accepted reduction has a budget
-accepted_by : (short zero? grown? : Bool) → cond short (Some TooShort) (cond zero? (Some NoBudget) (cond grown? None (Some Blank))) ≡ None → zero? ≡ false
+-- an accepted reduction has room for the stated longest, and a budget
+accepted_by : (short zero? grown? : Bool) → cond short (Some TooShort) (cond zero? (Some NoBudget) (cond grown? None (Some Blank))) ≡ None → (short ≡ false) × (zero? ≡ false)
 accepted_by true z g e = let x : ◌≡◌ {A = ℕ} 0 1 = cc in absurd (omega arith)
 accepted_by false true g e = let x : ◌≡◌ {A = ℕ} 0 1 = cc in absurd (omega arith)
-accepted_by false false g e = refl
+accepted_by false false g e = (refl, refl)
 
-accepted : {S I : Type 0} (t : Steps S I) (budget room : ℕ) (s : S) → refusal t budget room s ≡ None → 0 < budget
-accepted t budget room s e = let z = eqb-false budget 0 (accepted_by (ltb room (t.longest s)) (eqb budget 0) (t.grown s) e) in positive budget z
+pub accepted : {S I : Type 0} (t : Steps S I) (budget room : ℕ) (s : S) → refusal t budget room s ≡ None → (t.longest s ≤ room) × (0 < budget)
+accepted t budget room s e =
+    let b = accepted_by (ltb room (t.longest s)) (eqb budget 0) (t.grown s) e in
+    (ltb-false room (t.longest s) b.0, positive budget (eqb-false budget 0 b.1))
   where
     positive : (n : ℕ) → (n ≡ 0 → ⊥) → 0 < n
     positive zero z = absurd (z refl)
@@ -227,7 +230,7 @@ module _ {S I : Type 0} {t : Steps S I} {sound : S → Type 0} (k : Keeps t soun
 
   kept_asked : (fails : List I → Bool) (budget room : ℕ) (s : S) (h : S → List (Event S I)) → sound s → ((s' : S) → sound s' → Kept t sound s' (h s')) → (f : Option ReduceFault) → refusal t budget room s ≡ f → Kept t sound s (reduced budget s f (reduction t fails budget true [] s) h)
   kept_asked fails budget room s h o next (Some f) e = kept_refused f budget s (reduction t fails budget true [] s) h o (next s o)
-  kept_asked fails budget room s h o next None e = kept_reduction fails budget s h o (accepted t budget room s e) next
+  kept_asked fails budget room s h o next None e = kept_reduction fails budget s h o (accepted t budget room s e).1 next
 
   kept : (calls : List (Call I)) (s : S) → sound s → Kept t sound s (history t calls s)
   kept [] s o = record { good = good_none t sound s; reports = λ b js. tt }

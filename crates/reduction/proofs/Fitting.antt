@@ -1,16 +1,14 @@
 -- What a sound tree's reductions give fits a buffer that has room for the stated longest, so a witness hears of it whole.
 
-use Rattle.std.proofs.Common.{◌≡◌, ℕ, zero, suc, ◌≤◌, Bool, true, false, cond, eqb, ltb, List, [], ◌∷◌, ◌++◌, map, length, take, Some, None, Ok, Err, Option, sym, refl, ap, ◌∙◌, arith, take_all}
-use Rattle.std.proofs.lemmas.Bool.{ltb-false}
-use Rattle.meaning.specs.declared.reduction.End.{End}
-use Rattle.meaning.specs.declared.reduction.End.TheVariants.{Passes, Ended, Spent}
+use Rattle.std.proofs.Common.{◌≡◌, ℕ, zero, suc, ◌≤◌, Bool, true, false, cond, List, [], ◌∷◌, ◌++◌, map, length, Some, None, Ok, Option, sym, refl, ap, ◌∙◌, arith, take_all}
+use Rattle.meaning.specs.declared.reduction.End.TheVariants.{Ended}
 use Rattle.meaning.specs.declared.reduction.ReduceFault.{ReduceFault}
-use Rattle.meaning.specs.declared.reduction.ReduceFault.TheVariants.{TooShort, NoBudget, Blank}
-use Rattle.meaning.specs.Trees.{Stepped, Steps, Keeps}
+use Rattle.meaning.specs.Trees.{Steps, Keeps}
 use Rattle.meaning.specs.Growths.{Grown, Outcome}
-use Rattle.meaning.specs.Reductions.{Report, Happening, Event, still, step, Reduction, preceded, over_at, by_step, judged, reduction, refusal, copied}
+use Rattle.meaning.specs.Reductions.{Happening, Event, still, Reduction, over_at, judged, reduction, refusal, copied}
 use Rattle.meaning.specs.Reductions.Happening.{simplify, complicate, reading, verdict, refused as turned_down, start, report}
-use Rattle.meaning.specs.Runs.{Call, report_of, reduced, history}
+use Rattle.meaning.specs.Runs.{report_of, reduced, history}
+use Rattle.meaning.proofs.Promising.{accepted, law_whole}
 use Rattle.reduction.specs.declared.trial.Call.{Call as Entry}
 use Rattle.reduction.specs.declared.trial.Call.TheVariants.{Simplify, Complicate, Look, Reduce}
 use Rattle.reduction.specs.Trials.{called, left_by, roomy, heard, tried, by_growth, Tried}
@@ -47,40 +45,34 @@ module _ {S I W : Type 0} (t : Steps S I) (hears : W → Happening I → List I 
   heard_whole [] q w = refl
   heard_whole (e ∷ h) q w = ap (λ (x : W). heard t (roomy room hears) h x) (fit_told e.what q.0 w (t.candidate e.after)) ∙ heard_whole h q.1 (hears w e.what (t.candidate e.after))
 
--- what a reduction from a sound state gives and leaves, where so many items are stated
-record Fits {S I : Type 0} (t : Steps S I) (sound : S → Type 0) (room most : ℕ) (r : Reduction S I) : Type 0 where
+-- what a reduction from a sound state gives, where so many items are stated
+record Fits {S I : Type 0} (room most : ℕ) (r : Reduction S I) : Type 0 where
   own : AllFit room r.own
   fits : length r.result ≤ most
-  sound_left : sound r.left
 
 module _ {S I : Type 0} {t : Steps S I} {sound : S → Type 0} (k : Keeps t sound) (fails : List I → Bool) (room most : ℕ) where
-  fits_on : (b : Bool) (result : List I) (s : S) (more : Reduction S I) → length result ≤ most → sound s → Fits t sound room most more → Fits t sound room most (cond b more (over_at Ended result s))
-  fits_on true result s more h o f = f
-  fits_on false result s more h o f = record { own = tt; fits = h; sound_left = o }
+  fits_on : (b : Bool) (result : List I) (s : S) (more : Reduction S I) → length result ≤ most → Fits room most more → Fits room most (cond b more (over_at Ended result s))
+  fits_on true result s more h f = f
+  fits_on false result s more h f = record { own = tt; fits = h }
 
-  fits_judged : (f first : Bool) (result : List I) (s : S) (down up : Reduction S I) → sound s → t.longest s ≡ most → length result ≤ most → Fits t sound room most down → Fits t sound room most up → Fits t sound room most (judged t f first (t.candidate s) result s down up)
+  fits_judged : (f first : Bool) (result : List I) (s : S) (down up : Reduction S I) → sound s → t.longest s ≡ most → length result ≤ most → Fits room most down → Fits room most up → Fits room most (judged t f first (t.candidate s) result s down up)
   fits_judged true first result s down up o e h d u =
       let c = k.fits s o in
-      let q = fits_on (t.simplify s).answer (t.candidate s) (t.simplify s).tree down (omega (arith, c, e)) (k.simplify s o).0 d in
-      record { own = (tt, q.own); fits = q.fits; sound_left = q.sound_left }
-  fits_judged false true result s down up o e h d u = record { own = tt; fits = omega arith; sound_left = o }
+      let q = fits_on (t.simplify s).answer (t.candidate s) (t.simplify s).tree down (omega (arith, c, e)) d in
+      record { own = (tt, q.own); fits = q.fits }
+  fits_judged false true result s down up o e h d u = record { own = tt; fits = omega arith }
   fits_judged false false result s down up o e h d u =
-      let q = fits_on (t.complicate s).answer result (t.complicate s).tree up h (k.complicate s o).0 u in
-      record { own = (tt, q.own); fits = q.fits; sound_left = q.sound_left }
+      let q = fits_on (t.complicate s).answer result (t.complicate s).tree up h u in
+      record { own = (tt, q.own); fits = q.fits }
 
-  fits_reduction : (n : ℕ) (first : Bool) (result : List I) (s : S) → sound s → t.longest s ≡ most → length result ≤ most → Fits t sound room most (reduction t fails n first result s)
-  fits_reduction zero first result s o e h = record { own = tt; fits = h; sound_left = o }
+  fits_reduction : (n : ℕ) (first : Bool) (result : List I) (s : S) → sound s → t.longest s ≡ most → length result ≤ most → Fits room most (reduction t fails n first result s)
+  fits_reduction zero first result s o e h = record { own = tt; fits = h }
   fits_reduction (suc n) first result s o e h =
       let c = k.fits s o in
       let down = fits_reduction n false (t.candidate s) (t.simplify s).tree (k.simplify s o).0 ((k.simplify s o).2 ∙ e) (omega (arith, c, e)) in
       let up = fits_reduction n false result (t.complicate s).tree (k.complicate s o).0 ((k.complicate s o).2 ∙ e) h in
       let q = fits_judged (fails (t.candidate s)) first result s _ _ o e h down up in
-      record { own = (tt, q.own); fits = q.fits; sound_left = q.sound_left }
-
--- a reduction that is not refused has room for the stated longest
-room_by : (short zero? grown? : Bool) → cond short (Some TooShort) (cond zero? (Some NoBudget) (cond grown? None (Some Blank))) ≡ None → short ≡ false
-room_by true z g e = let x : ◌≡◌ {A = ℕ} 0 1 = cc in absurd (omega arith)
-room_by false z g e = refl
+      record { own = (tt, q.own); fits = q.fits }
 
 module _ {S I V : Type 0} {t : Steps S I} {sound : S → Type 0} (k : Keeps t sound) (judges : V → List I → Bool) (room : ℕ) where
   fit_reduced : (fails : List I → Bool) (budget : ℕ) (s : S) (h : S → List (Event S I)) → sound s → ((s' : S) → sound s' → AllFit room (h s')) → (q : Option ReduceFault) → refusal t budget room s ≡ q → AllFit room (reduced budget s q (reduction t fails budget true [] s) h)
@@ -88,9 +80,10 @@ module _ {S I V : Type 0} {t : Steps S I} {sound : S → Type 0} (k : Keeps t so
   fit_reduced fails budget s h o next None e =
       let r = reduction t fails budget true [] s in
       let f = fits_reduction k fails room (t.longest s) budget true [] s o refl (omega arith) in
-      let roomy = ltb-false room (t.longest s) (room_by (ltb room (t.longest s)) (eqb budget 0) (t.grown s) e) in
+      let a = accepted t budget room s e in
+      let room_left = a.0 in
       let fits = f.fits in
-      (tt, fit_append room r.own (still (report (report_of r)) r.left ∷ h r.left) f.own (omega (arith, fits, roomy), next r.left f.sound_left))
+      (tt, fit_append room r.own (still (report (report_of r)) r.left ∷ h r.left) f.own (omega (arith, fits, room_left), next r.left (law_whole k fails budget s o a.1).sound_left))
 
   pub fit_history : (script : List (Entry V)) (s : S) → sound s → AllFit room (history t (map (called judges room) script) s)
   fit_history [] s o = tt
