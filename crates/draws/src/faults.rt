@@ -2,9 +2,12 @@ ghost use Rattle.std.specs.Prelude.{◌≡◌, None};
 ghost use Rattle.draws.specs.declared.faults.Cause.TheVariants.{Slots as slots, Draw as draw, Reject as reject};
 ghost use Rattle.draws.specs.Faults.{draw_number, reject_number, grow_number, in_element};
 
+use thiserror::Error;
+
 // A draw found its source spent.
-#[derive(Clone, Copy)]
+#[derive(Clone, Copy, Debug, PartialEq, Eq, Error)]
 pub enum DrawFault {
+    #[error("a draw found its source spent")]
     Spent,
 }
 
@@ -19,8 +22,9 @@ impl DrawFault {
 }
 
 // A candidate was rejected, and the runner had no rejection left.
-#[derive(Clone, Copy)]
+#[derive(Clone, Copy, Debug, PartialEq, Eq, Error)]
 pub enum RejectFault {
+    #[error("a candidate was rejected, and no rejection was left")]
     NoneLeft,
 }
 
@@ -35,15 +39,19 @@ impl RejectFault {
 }
 
 // Why a growth was refused: the place has too few slots, or the fault of the layer below, whole.
-#[derive(Clone, Copy)]
+#[derive(Clone, Copy, Debug, PartialEq, Eq, Error)]
 pub enum Cause {
+    #[error("the place has too few slots")]
     Slots,
+    #[error(transparent)]
     Draw(DrawFault),
+    #[error(transparent)]
     Reject(RejectFault),
 }
 
 // A refused growth: why, and the number of the nearest element or option around that place, if any.
-#[derive(Clone, Copy)]
+#[derive(Clone, Copy, Debug, PartialEq, Eq, Error)]
+#[error("a growth is refused: {cause}")]
 pub struct GrowFault {
     pub cause: Cause,
     pub element: Option<usize>,

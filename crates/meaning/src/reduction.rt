@@ -1,8 +1,10 @@
 ghost use Rattle.std.specs.Prelude.{◌≡◌};
 ghost use Rattle.meaning.specs.Reductions.{reduce_number};
 
+use thiserror::Error;
+
 // How a reduction came to its end: its first verdict passed; no step was left; or the verdicts were used up.
-#[derive(Clone, Copy)]
+#[derive(Clone, Copy, Debug, PartialEq, Eq)]
 pub enum End {
     Passes,
     Ended,
@@ -10,13 +12,13 @@ pub enum End {
 }
 
 // Why a reduction is refused.
-#[derive(Clone, Copy)]
+#[derive(Clone, Copy, Debug, PartialEq, Eq, Error)]
 pub enum ReduceFault {
-    // The result buffer is shorter than the tree's stated longest.
+    #[error("the result buffer is shorter than the tree's stated longest")]
     TooShort,
-    // The budget is 0.
+    #[error("the budget is 0")]
     NoBudget,
-    // The tree is blank.
+    #[error("the tree is blank")]
     Blank,
 }
 
@@ -34,7 +36,7 @@ impl ReduceFault {
 
 // What a reduction answers: how it came to its end, how many verdicts it made, and how many items its result has, 0 where no
 // list failed.
-#[derive(Clone, Copy)]
+#[derive(Clone, Copy, Debug, PartialEq, Eq)]
 pub struct Reduced {
     pub end: End,
     pub verdicts: u32,
@@ -43,7 +45,7 @@ pub struct Reduced {
 
 // What a witness is told of, beside a reduction's report: a step with its answer, a reading, a verdict that says whether the
 // candidate failed, a refused reduction, or the start of one with its budget.
-#[derive(Clone, Copy)]
+#[derive(Clone, Copy, Debug, PartialEq, Eq)]
 pub enum Notice {
     Simplified(bool),
     Complicated(bool),

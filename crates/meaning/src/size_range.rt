@@ -1,9 +1,12 @@
 ghost use Rattle.std.specs.Prelude.{◌≡◌, ◌<◌, ◌≤◌, MatchResult};
 ghost use Rattle.meaning.specs.Sizes.{size_number};
 
+use thiserror::Error;
+
 // A size was to go from a lowest above its highest.
-#[derive(Clone, Copy)]
+#[derive(Clone, Copy, Debug, PartialEq, Eq, Error)]
 pub enum SizeFault {
+    #[error("the lowest size is above the highest")]
     Reversed,
 }
 
@@ -18,7 +21,7 @@ impl SizeFault {
 }
 
 // How many elements: from `low` to `high`, both included.
-#[derive(Clone, Copy)]
+#[derive(Clone, Copy, Debug, PartialEq, Eq)]
 pub struct SizeRange {
     low: usize,
     high: usize,

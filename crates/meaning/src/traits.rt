@@ -13,10 +13,12 @@ use crate::reduction::{Notice, Reduced};
 use draws::faults::GrowFault;
 use draws::source::Source;
 use draws::test_runner::TestRunner;
+use thiserror::Error;
 
 // A candidate is longer than the buffer into which it was to be read.
-#[derive(Clone, Copy)]
+#[derive(Clone, Copy, Debug, PartialEq, Eq, Error)]
 pub enum ReadFault {
+    #[error("the buffer is shorter than the candidate")]
     TooShort,
 }
 
@@ -31,11 +33,11 @@ impl ReadFault {
 }
 
 // Why a strategy cannot be made.
-#[derive(Clone, Copy)]
+#[derive(Clone, Copy, Debug, PartialEq, Eq, Error)]
 pub enum StrategyFault {
-    // A highest size is above what there is room for.
+    #[error("a highest size is above what there is room for")]
     TooLarge,
-    // Its stated longest would pass 4,096 items.
+    #[error("the stated longest would pass 4,096 items")]
     TooLong,
 }
 
