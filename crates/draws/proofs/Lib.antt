@@ -1,2 +1,1 @@
-mod Generator
 mod Examples

@@ -71,12 +71,9 @@ impl GrowFault {
     pub fn in_element(self, i: usize) -> GrowFault
         ensures { result ≡ in_element i self }
     {
-        match self.element {
-            Some(_) => self,
-            None => GrowFault {
-                cause: self.cause,
-                element: Some(i),
-            },
+        GrowFault {
+            cause: self.cause,
+            element: self.element.or(Some(i)),
         }
     }
 

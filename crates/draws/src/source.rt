@@ -43,13 +43,9 @@ impl<'a> Source for Tape<'a> {
     ghost words = { tape_words };
 
     fn next_word(&mut self) -> Option<u64> {
-        if self.place < self.words.len() {
-            let w = self.words[self.place];
-            self.place += 1;
-            Some(w)
-        } else {
-            None
-        }
+        let word = *self.words.get(self.place)?;
+        self.place += 1;
+        Some(word)
     }
 
     fn split(&mut self) -> Tape<'a> {
@@ -57,30 +53,24 @@ impl<'a> Source for Tape<'a> {
     }
 }
 
-// A generator of 64-bit words by three shifts and exclusive ors. It is never spent, and its state is never 0: it is made with
-// another, and no turn leads there.
-#[derive(Clone, Copy)]
+// A generator of 64-bit words by three shifts and exclusive ors. Its state is never 0, so it never gives zeros alone.
+#[derive(Clone, Copy, Debug, PartialEq, Eq)]
 pub struct XorShift {
     x: u64,
+    ghost live: { 0 < x },
 }
 
 impl XorShift {
     // The seed 0, from which only zeros would come, counts as 1.
     pub fn new(seed: u64) -> XorShift
-        ensures state { result.x ≡ seeded seed }
-        ensures live { 0 < result.x }
+        ensures { result.x ≡ seeded seed }
     {
-        if seed == 0 {
-            XorShift { x: 1 }
-        } else {
-            XorShift { x: seed }
-        }
+        XorShift { x: seed.max(1) }
     }
 
     fn step(&mut self) -> u64
         ensures given { result ≡ xorshift self.old.x }
         ensures left { self.new.x ≡ xorshift self.old.x }
-        ensures live { 0 < self.old.x → 0 < self.new.x }
     {
         let mut x = self.x;
         x ^= x << 13;
@@ -98,12 +88,8 @@ impl Source for XorShift {
 
     ghost words = { generator_words };
 
-    // A state other than 0 stays so: the generator never runs dry.
-    fn next_word(&mut self) -> Option<u64>
-        ensures given { result ≡ word generator_words self.old.x }
-        ensures left { self.new.x ≡ after generator_words self.old.x }
-        ensures live { 0 < self.old.x → 0 < self.new.x }
-    {
+    // It is never spent.
+    fn next_word(&mut self) -> Option<u64> {
         Some(self.step())
     }
 

@@ -34,16 +34,12 @@ impl<D: Source> TestRunner<D> {
         ensures left { run D.Source.state self.new ≡ advanced D.Source.words (run D.Source.state self.old) }
         ensures range { low ≤ high → IfOk result (λ v. (low ≤ v) × (v ≤ high)) }
     {
-        match self.source.next_word() {
-            Some(w) => {
-                let span = if low < high { high - low } else { 0 };
-                if span < u64::MAX {
-                    Ok(low + w % (span + 1))
-                } else {
-                    Ok(w)
-                }
-            }
-            None => Err(DrawFault::Spent),
+        let word = self.source.next_word().ok_or(DrawFault::Spent)?;
+        let span = high.saturating_sub(low);
+        if span < u64::MAX {
+            Ok(low + word % (span + 1))
+        } else {
+            Ok(word)
         }
     }
 
@@ -52,10 +48,8 @@ impl<D: Source> TestRunner<D> {
         ensures answer { result ≡ answered (word D.Source.words (run D.Source.state self.old).source) }
         ensures left { run D.Source.state self.new ≡ advanced D.Source.words (run D.Source.state self.old) }
     {
-        match self.source.next_word() {
-            Some(w) => Ok(w % 2 == 1),
-            None => Err(DrawFault::Spent),
-        }
+        let word = self.source.next_word().ok_or(DrawFault::Spent)?;
+        Ok(word % 2 == 1)
     }
 
     // A runner of its own for a part that grows later: the source is split, the numbers are copied.
