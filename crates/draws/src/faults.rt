@@ -12,6 +12,7 @@ pub enum DrawFault {
 }
 
 impl DrawFault {
+    // Not `From`: faults share numbers, so the number loses which fault it was.
     pub fn number(self) -> u32
         ensures { result ≡ draw_number self }
     {
@@ -29,6 +30,7 @@ pub enum RejectFault {
 }
 
 impl RejectFault {
+    // Not `From`: faults share numbers, so the number loses which fault it was.
     pub fn number(self) -> u32
         ensures { result ≡ reject_number self }
     {
@@ -77,6 +79,7 @@ impl GrowFault {
         }
     }
 
+    // Not `From`: faults share numbers, so the number loses which fault it was.
     pub fn number(self) -> u32
         ensures { result ≡ grow_number self }
     {
@@ -88,6 +91,7 @@ impl GrowFault {
     }
 }
 
+// By hand: the contracts of growth need to know which fault `?` makes, and a derived `From` has no `from_gives`.
 impl From<DrawFault> for GrowFault {
     ghost from_gives = { λ d r. r ≡ record { cause = draw d; element = None } };
 

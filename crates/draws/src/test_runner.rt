@@ -7,7 +7,8 @@ use crate::faults::{DrawFault, RejectFault};
 use crate::source::Source;
 
 // What a strategy grows from: a source of words, and three numbers up to 65,535: the cases that a
-// flatten regrows, the regenerations left over, and the rejections left over.
+// flatten regrows, the regenerations left over, and the rejections left over. It has no model, since a model's value cannot be
+// of a bound's type `D.State`: clauses name `run`, which takes what a source's state is.
 #[derive(Drop)]
 pub struct TestRunner<D> {
     source: D,

@@ -23,6 +23,7 @@ pub enum ReduceFault {
 }
 
 impl ReduceFault {
+    // Not `From`: faults share numbers, so the number loses which fault it was.
     pub fn number(self) -> u32
         ensures { result ≡ reduce_number self }
     {

@@ -11,6 +11,7 @@ pub enum SizeFault {
 }
 
 impl SizeFault {
+    // Not `From`: faults share numbers, so the number loses which fault it was.
     pub fn number(self) -> u32
         ensures { result ≡ size_number self }
     {

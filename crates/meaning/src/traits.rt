@@ -23,6 +23,7 @@ pub enum ReadFault {
 }
 
 impl ReadFault {
+    // Not `From`: faults share numbers, so the number loses which fault it was.
     pub fn number(self) -> u32
         ensures { result ≡ read_number self }
     {
@@ -42,6 +43,7 @@ pub enum StrategyFault {
 }
 
 impl StrategyFault {
+    // Not `From`: faults share numbers, so the number loses which fault it was.
     pub fn number(self) -> u32
         ensures { result ≡ strategy_number self }
     {
@@ -57,6 +59,9 @@ impl StrategyFault {
 //
 // What it means is said by ghost members: `steps` over the model's states, and what growing by its
 // strategy means (`short`, where the place has too few slots; `grows`; `stated`, the longest).
+//
+// The list that a tree shows is `steps.candidate (state tree)` in every clause: a ghost member of its own would need a law that
+// each tree proves, to say no more.
 pub trait ValueTree {
     type Item: Drop;
 
@@ -134,7 +139,8 @@ pub trait Strategy: Sized {
     fn lacks_slots(&self, place: &Self::Tree) -> bool
         ensures { result ≡ Self.Tree.ValueTree.short self.now (Self.Tree.ValueTree.state place.now) };
 
-    // Grows a tree into `place`. Refused for too few slots, the place stays as it was; else it is then blank.
+    // Grows a tree into `place`. Refused for too few slots, the place stays as it was; else it is then blank. Runner and place
+    // are no struct: one runner grows many places, and a place is stepped without a runner.
     fn new_tree<D: Source>(
         &self,
         runner: &mut TestRunner<D>,
@@ -169,7 +175,8 @@ pub trait Witness<I> {
         ensures { state self.new ≡ hears (state self.old) (reported report buffer.now) (T.ValueTree.steps.candidate (T.ValueTree.state tree.now)) };
 }
 
-// A rule on lists of items: whether it accepts one.
+// A rule on lists of items: whether it accepts one. A trait beside `Verdict`, since true means the opposite: a verdict that says
+// true fails its list.
 pub trait Rule<I> {
     ghost allows: { Self → List I → Bool };
 
