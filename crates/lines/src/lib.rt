@@ -14,7 +14,9 @@ ghost use Rattle.buffers.specs.Over.{laid, laid_from};
 mod tests;
 mod words;
 
-#[derive(Clone, Copy)]
+use thiserror::Error;
+
+#[derive(Clone, Copy, Debug, PartialEq, Eq)]
 pub enum Line<'a> {
     // The items of a candidate.
     View(&'a [u64]),
@@ -27,8 +29,9 @@ pub enum Line<'a> {
 }
 
 // Why a line is not written.
-#[derive(Clone, Copy)]
+#[derive(Clone, Copy, Debug, PartialEq, Eq, Error)]
 pub enum LineFault {
+    #[error("the buffer is shorter than the line")]
     TooShort,
 }
 

@@ -3,35 +3,19 @@ use std::process::Abort;
 
 const BLANK: u8 = 0xaa;
 
-fn numbered(r: Result<usize, LineFault>) -> Result<usize, u32> {
-    match r {
-        Ok(behind) => Ok(behind),
-        Err(fault) => Err(fault.number()),
-    }
-}
-
-fn all_blank(bytes: &[u8]) -> bool {
-    for b in bytes {
-        if *b != BLANK {
-            return false;
-        }
-    }
-    true
-}
-
 // The line stands at the start of a blank buffer, and the rest is blank still.
 fn fits(rt: &impl Abort, line: Line<'_>, text: &[u8], out: &mut [u8]) {
     let len = text.len();
     assert!(rt; len <= out.len());
-    assert_eq!(rt; numbered(write_line(line, out)), Ok(len));
+    assert_eq!(rt; write_line(line, out), Ok(len));
     assert!(rt; &out[0..len] == text);
-    assert!(rt; all_blank(&out[len..]));
+    assert!(rt; out[len..].iter().all(|b| *b == BLANK));
 }
 
 // The line is refused, and the blank buffer is blank still.
 fn too_short(rt: &impl Abort, line: Line<'_>, out: &mut [u8]) {
-    assert_eq!(rt; numbered(write_line(line, out)), Err(7));
-    assert!(rt; all_blank(out));
+    assert_eq!(rt; write_line(line, out), Err(LineFault::TooShort));
+    assert!(rt; out.iter().all(|b| *b == BLANK));
 }
 
 // The line in a buffer with room behind it, in one that it fills, and in one that is a byte too short.
@@ -62,21 +46,20 @@ fn each_kind_of_line(rt: HostRuntime) {
 #[test]
 fn one_line_after_another(rt: HostRuntime) {
     let mut out = [BLANK; 12];
+    assert_eq!(rt; write_at(Line::View(&[5, 70]), &mut out, 0), Ok(7));
+    assert_eq!(rt; write_at(Line::Simplified(true), &mut out, 7), Ok(11));
     assert_eq!(rt;
-        numbered(write_at(Line::View(&[5, 70]), &mut out, 0)),
-        Ok(7)
+        write_at(Line::Complicated(true), &mut out, 11),
+        Err(LineFault::TooShort)
     );
     assert_eq!(rt;
-        numbered(write_at(Line::Simplified(true), &mut out, 7)),
-        Ok(11)
-    );
-    assert_eq!(rt;
-        numbered(write_at(Line::Complicated(true), &mut out, 11)),
-        Err(7)
-    );
-    assert_eq!(rt;
-        numbered(write_at(Line::Complicated(true), &mut out, 13)),
-        Err(7)
+        write_at(Line::Complicated(true), &mut out, 13),
+        Err(LineFault::TooShort)
     );
     assert!(rt; &out[0..] == b"v 5 70\ns 1\n\xaa".as_slice());
+}
+
+#[test]
+fn the_number_of_the_fault(rt: HostRuntime) {
+    assert_eq!(rt; LineFault::TooShort.number(), 7);
 }
