@@ -1,6 +1,5 @@
 -- For other crates: Pages, lines written one after another.
 pub mod Pages
-mod Decimals
 mod Spaced
 mod Parts
 mod Examples

@@ -15,7 +15,9 @@ mod tests;
 mod words;
 
 use thiserror::Error;
+use words::Words;
 
+// An enum can have no model yet: the contracts read what it says by `said`.
 #[derive(Clone, Copy, Debug, PartialEq, Eq)]
 pub enum Line<'a> {
     // The items of a candidate.
@@ -26,6 +28,24 @@ pub enum Line<'a> {
     // The number of a refusal, alone or with the line of the plan that it names.
     Refused(u32),
     RefusedAt(u32, u32),
+}
+
+impl Line<'_> {
+    // What `form` answers to the words of the line. It is lent, since a caller's proof then knows what it left behind.
+    fn with_words<R, F: FnMut(&Words<'_>) -> R>(self, form: &mut F) -> R
+        requires { F.IsAlwaysCallable form.old }
+        ensures { (words : _) × F.step form.old words result form.new × (words.now ≡ line_bytes (said self.entry)) }
+    {
+        match self {
+            Line::View(items) => form(&Words::new(b"v", items)),
+            Line::Simplified(moved) => form(&Words::new(b"s", &[u64::from(moved)])),
+            Line::Complicated(moved) => form(&Words::new(b"c", &[u64::from(moved)])),
+            Line::Refused(n) => form(&Words::new(b"refused", &[u64::from(n)])),
+            Line::RefusedAt(n, at) => {
+                form(&Words::new(b"refused", &[u64::from(n), u64::from(at)]))
+            }
+        }
+    }
 }
 
 // Why a line is not written.
@@ -49,13 +69,7 @@ impl LineFault {
 pub fn line_len(line: Line<'_>) -> usize
     ensures { result ≡ min (length (line_bytes (said line.entry))) (2 ^ 64 - 1) }
 {
-    match line {
-        Line::View(items) => words::len(b"v", items),
-        Line::Simplified(moved) => words::len(b"s", &[u64::from(moved)]),
-        Line::Complicated(moved) => words::len(b"c", &[u64::from(moved)]),
-        Line::Refused(n) => words::len(b"refused", &[u64::from(n)]),
-        Line::RefusedAt(n, at) => words::len(b"refused", &[u64::from(n), u64::from(at)]),
-    }
+    line.with_words(&mut |words| words.len())
 }
 
 // Writes the line to the start of `out`, and answers how many bytes it takes. The bytes behind it stay as they were, and so
@@ -64,13 +78,7 @@ pub fn write_line(line: Line<'_>, out: &mut [u8]) -> Result<usize, LineFault>
     ensures answer { result ≡ ending (length (line_bytes (said line.entry))) out.old }
     ensures buffer { out.new ≡ laid (line_bytes (said line.entry)) out.old }
 {
-    match line {
-        Line::View(items) => words::write(b"v", items, out),
-        Line::Simplified(moved) => words::write(b"s", &[u64::from(moved)], out),
-        Line::Complicated(moved) => words::write(b"c", &[u64::from(moved)], out),
-        Line::Refused(n) => words::write(b"refused", &[u64::from(n)], out),
-        Line::RefusedAt(n, at) => words::write(b"refused", &[u64::from(n), u64::from(at)], out),
-    }
+    line.with_words(&mut |words| words.write(out))
 }
 
 // Writes the line into `out` from `at` on, and answers the place behind it, where the next line goes. The other bytes stay as
