@@ -10,8 +10,9 @@ use draws::test_runner::TestRunner;
 use meaning::traits::{Strategy, ValueTree};
 
 // A stair shows one number. It goes down one at a time, to its floor, and back up to where it last was.
-#[derive(Clone, Copy)]
+#[derive(Clone, Copy, Debug, Default, PartialEq, Eq)]
 pub struct Stair {
+    // Beside the tree and not an `Option` of it, since the contract of `blank` pins that the place keeps the rest.
     grown: bool,
     value: u64,
     floor: u64,
@@ -23,12 +24,7 @@ impl Stair {
     pub fn place() -> Stair
         ensures { result ≡ record { grown = false; value = 0; floor = 0; note = None } }
     {
-        Stair {
-            grown: false,
-            value: 0,
-            floor: 0,
-            note: None,
-        }
+        Stair::default()
     }
 }
 
@@ -56,7 +52,7 @@ impl ValueTree for Stair {
     }
 
     fn longest(&self) -> usize {
-        if self.grown { 1 } else { 0 }
+        self.len()
     }
 
     fn len(&self) -> usize {
@@ -64,16 +60,14 @@ impl ValueTree for Stair {
     }
 
     fn item(&self, i: usize) -> Option<u64> {
-        if self.grown && i == 0 {
-            Some(self.value)
-        } else {
-            None
-        }
+        (self.grown && i == 0).then_some(self.value)
     }
 
     fn copy_to(&self, buf: &mut [u64]) -> usize {
-        if self.grown && buf.len() > 0 {
-            buf[0] = self.value;
+        if self.grown
+            && let Some(first) = buf.first_mut()
+        {
+            *first = self.value;
             1
         } else {
             0
@@ -95,22 +89,20 @@ impl ValueTree for Stair {
     }
 
     fn complicate(&mut self) -> bool {
-        if !self.grown {
-            return false;
-        }
-        match self.note.take() {
-            Some(v) => {
-                self.value = v;
-                self.floor = v;
-                true
-            }
-            None => false,
+        if self.grown
+            && let Some(value) = self.note.take()
+        {
+            self.value = value;
+            self.floor = value;
+            true
+        } else {
+            false
         }
     }
 }
 
 // Grows stairs by a draw from 0 to a limit.
-#[derive(Clone, Copy)]
+#[derive(Clone, Copy, Debug, PartialEq, Eq)]
 pub struct Stairs {
     limit: u64,
 }
@@ -142,13 +134,12 @@ impl Strategy for Stairs {
         runner: &mut TestRunner<D>,
         place: &mut Stair,
     ) -> Result<(), GrowFault> {
-        place.grown = false;
+        place.blank();
         let value = runner.draw(0, self.limit)?;
         *place = Stair {
             grown: true,
             value,
-            floor: 0,
-            note: None,
+            ..Stair::place()
         };
         Ok(())
     }
