@@ -1,83 +1,39 @@
 -- The slots of a slice, read through the states of the trees in them.
 
-use Rattle.std.proofs.Common.{◌≡◌, ℕ, zero, suc, ◌+◌, ◌-◌, ◌<◌, ◌≤◌, Bool, true, false, cond, List, [], ◌∷◌, map, length, get_or, drop, set, Err, sym, refl, ap, ◌∙◌, add-one, arith}
-use Rattle.draws.specs.Runners.{RunnerState}
+use Rattle.std.proofs.Common.{◌≡◌, ℕ, zero, suc, Bool, false, List, [], ◌∷◌, map, length, set, Option, Some, None, refl, ap, ◌∙◌, sym}
+use Rattle.std.specs.Option.{MatchOption, option_map, unwrap_or}
+use Rattle.std.specs.List.{slice_get}
+use Rattle.std.specs.Slice.{IsItemAt}
+use Rattle.std.proofs.lemmas.Option.{none-some, same_Some, slice_get_read, slice_get_past}
+use denote.Ref.{Bor}
 use Rattle.meaning.specs.Trees.{Stepped}
-use Rattle.meaning.specs.Growths.{Grown, Outcome, Grows, too_few_slots}
-use Rattle.meaning.specs.Tables.{at, step_at, beside, in_front, grow_at, lacking}
+use Rattle.meaning.specs.Tables.{at, step_at}
 
 module _ {Y S : Type 0} (state : Y → S) where
-  pub at_slot : {A : Type 0} (f : S → A) (d : A) (xs : List Y) (i : ℕ) (e : Y) → i < length xs → f (state (get_or xs i e)) ≡ at f d (map state xs) i
-  at_slot f d [] i e h = absurd (omega (arith, h))
-  at_slot f d (x ∷ xs) zero e h = refl
-  at_slot f d (x ∷ xs) (suc i) e h = at_slot f d xs i e (omega (arith, h))
+  at_get : {A : Type 0} (f : S → A) (d : A) (xs : List Y) (i : ℕ) → at f d (map state xs) i ≡ unwrap_or (option_map (λ x. f (state x)) (slice_get xs i)) d
+  at_get f d [] i = refl
+  at_get f d (x ∷ xs) zero = refl
+  at_get f d (x ∷ xs) (suc i) = at_get f d xs i
 
-  pub at_past : {A : Type 0} (f : S → A) (d : A) (xs : List Y) (i : ℕ) → length xs ≤ i → d ≡ at f d (map state xs) i
-  at_past f d [] i h = refl
-  at_past f d (x ∷ xs) zero h = absurd (omega (arith, h))
-  at_past f d (x ∷ xs) (suc i) h = at_past f d xs i (omega (arith, h))
+  -- what f says of tree number i, where r is what `get` lent of it
+  pub at_lent : {A : Type 0} (f : S → A) (d : A) (xs : List Y) (i : ℕ) (r : Option (Bor Y)) → IsItemAt xs i r → at f d (map state xs) i ≡ unwrap_or (option_map (λ x. f (state x.now)) r) d
+  at_lent f d xs i None h = at_get f d xs i ∙ ap (λ o. unwrap_or (option_map (λ x. f (state x)) o) d) (slice_get_past xs i h.3)
+  at_lent f d xs i (Some x) h = at_get f d xs i ∙ ap (λ o. unwrap_or (option_map (λ x. f (state x)) o) d) (slice_get_read xs (length xs) i x.now refl h.3.0 (h.3.1 x.now))
 
-  -- what is read of the tree v in slot i
-  pub read_slot : {A B : Type 0} (f : S → A) (d : A) (F : A → B) (xs : List Y) (i : ℕ) (v : Y) → i < length xs → v ≡ get_or xs i v → F (f (state v)) ≡ F (at f d (map state xs) i)
-  read_slot f d F xs i v h e = ap F (ap (λ (x : Y). f (state x)) e ∙ at_slot f d xs i v h)
+  step_slot : (f : S → Stepped S) (xs : List Y) (i : ℕ) (x v : Y) (a : Bool) → slice_get xs i ≡ Some x → record { answer = a; tree = state v } ≡ f (state x) → record { answer = a; tree = map state (set xs i v) } ≡ step_at f (map state xs) i
+  step_slot f [] i x v a e q = absurd (none-some x e)
+  step_slot f (y ∷ xs) zero x v a e q = ap (λ (s : Stepped S). record { answer = s.answer; tree = s.tree ∷ map state xs }) (q ∙ ap (λ (z : Y). f (state z)) (sym (same_Some y x e)))
+  step_slot f (y ∷ xs) (suc i) x v a e q = ap (λ (s : Stepped (List S)). record { answer = s.answer; tree = state y ∷ s.tree }) (step_slot f xs i x v a e q)
 
-  -- a step of the tree in slot i, stored back; past the end nothing changes
-  pub step_slot : (f : S → Stepped S) (xs : List Y) (i : ℕ) (e v : Y) (a : Bool) → i < length xs → record { answer = a; tree = state v } ≡ f (state (get_or xs i e)) → record { answer = a; tree = map state (set xs i v) } ≡ step_at f (map state xs) i
-  step_slot f [] i e v a h q = absurd (omega (arith, h))
-  step_slot f (x ∷ xs) zero e v a h q = ap (λ (s : Stepped S). record { answer = s.answer; tree = s.tree ∷ map state xs }) q
-  step_slot f (x ∷ xs) (suc i) e v a h q = ap (λ (s : Stepped (List S)). record { answer = s.answer; tree = state x ∷ s.tree }) (step_slot f xs i e v a (omega (arith, h)) q)
+  step_past : (f : S → Stepped S) (xs : List Y) (i : ℕ) → slice_get xs i ≡ None → record { answer = false; tree = map state xs } ≡ step_at f (map state xs) i
+  step_past f [] i e = refl
+  step_past f (y ∷ xs) zero e = absurd (none-some y (sym e))
+  step_past f (y ∷ xs) (suc i) e = ap (λ (s : Stepped (List S)). record { answer = s.answer; tree = state y ∷ s.tree }) (step_past f xs i e)
 
-  pub step_past : (f : S → Stepped S) (xs : List Y) (i : ℕ) → length xs ≤ i → record { answer = false; tree = map state xs } ≡ step_at f (map state xs) i
-  step_past f [] i h = refl
-  step_past f (x ∷ xs) zero h = absurd (omega (arith, h))
-  step_past f (x ∷ xs) (suc i) h = ap (λ (s : Stepped (List S)). record { answer = s.answer; tree = state x ∷ s.tree }) (step_past f xs i (omega (arith, h)))
-
-  -- the growth of the tree in slot i, in place
-  pub grow_slot : {X : Type 0} (g : Grows X S) (r : RunnerState X) (xs : List Y) (i : ℕ) (e v : Y) (a : Grown) (r' : RunnerState X) → i < length xs → record { answer = a; runner = r'; place = state v } ≡ g r (state (get_or xs i e)) → record { answer = a; runner = r'; place = map state (set xs i v) } ≡ grow_at g i r (map state xs)
-  grow_slot g r [] i e v a r' h q = absurd (omega (arith, h))
-  grow_slot g r (x ∷ xs) zero e v a r' h q = ap (λ (o : Outcome _ S). in_front o (map state xs)) q
-  grow_slot g r (x ∷ xs) (suc i) e v a r' h q = ap (λ (o : Outcome _ (List S)). beside (state x) o) (grow_slot g r xs i e v a r' (omega (arith, h)) q)
-
-  pub grow_past : {X : Type 0} (g : Grows X S) (r : RunnerState X) (xs : List Y) (i : ℕ) → length xs ≤ i → record { answer = Err too_few_slots; runner = r; place = map state xs } ≡ grow_at g i r (map state xs)
-  grow_past g r [] i h = refl
-  grow_past g r (x ∷ xs) zero h = absurd (omega (arith, h))
-  grow_past g r (x ∷ xs) (suc i) h = ap (λ (o : Outcome _ (List S)). beside (state x) o) (grow_past g r xs i (omega (arith, h)))
-
-  -- too few slots, slot by slot
-  -- too few slots: there are fewer than n, or one of the first n says so
-  pub lacking_few : (short : S → Bool) (n : ℕ) (xs : List Y) → length xs < n → true ≡ lacking short n (map state xs)
-  lacking_few short zero xs h = absurd (omega (arith, h))
-  lacking_few short (suc n) [] h = refl
-  lacking_few short (suc n) (x ∷ xs) h = either (short (state x)) (lacking_few short n xs (omega (arith, h)))
+  -- a step of the tree in slot i, stored back, where the step does f to a tree
+  pub stepped : (f : S → Stepped S) (R : Y → Y → Type 0) (xs ys : List Y) (i : ℕ) (a : Bool) → MatchOption (slice_get xs i) ((a ≡ false) × (ys ≡ xs)) (λ x. (v : Y) × R x v × (ys ≡ set xs i v)) → ((x v : Y) → R x v → record { answer = a; tree = state v } ≡ f (state x)) → record { answer = a; tree = map state ys } ≡ step_at f (map state xs) i
+  stepped f R xs ys i a h does = by (slice_get xs i) refl h
     where
-      either : (b : Bool) {l : Bool} → true ≡ l → true ≡ cond b true l
-      either true e = refl
-      either false e = e
-
-  -- what is left to ask from slot i on
-  pub record Asking (short : S → Bool) (n : ℕ) (xs : List Y) (i : ℕ) : Type 0 where
-    pub same : lacking short (n - i) (map state (drop i xs)) ≡ lacking short n (map state xs)
-
-  ask : (short : S → Bool) (m : ℕ) (xs : List Y) (i : ℕ) (e : Y) → i < length xs → lacking short (suc m) (map state (drop i xs)) ≡ cond (short (state (get_or xs i e))) true (lacking short m (map state (drop (suc i) xs)))
-  ask short m [] i e h = absurd (omega (arith, h))
-  ask short m (x ∷ xs) zero e h = refl
-  ask short m (x ∷ xs) (suc i) e h = ask short m xs i e (omega (arith, h))
-
-  asked : (short : S → Bool) (n : ℕ) (xs : List Y) (i : ℕ) (v : Y) (b : Bool) → Asking short n xs i → i < n → i < length xs → v ≡ get_or xs i v → b ≡ short (state v) → cond b true (lacking short (n - suc i) (map state (drop (suc i) xs))) ≡ lacking short n (map state xs)
-  asked short n xs i v b a h l e q =
-      ap (λ (x : Bool). cond x true (lacking short (n - suc i) (map state (drop (suc i) xs)))) (q ∙ ap (λ (x : Y). short (state x)) e)
-      ∙ sym (ask short (n - suc i) xs i v l)
-      ∙ ap (λ (k : ℕ). lacking short k (map state (drop i xs))) (let k : suc (n - suc i) ≡ n - i = omega (arith, h) in k)
-      ∙ a.same
-
-  pub ask_found : (short : S → Bool) (n : ℕ) (xs : List Y) (i : ℕ) (v : Y) → Asking short n xs i → i < n → i < length xs → v ≡ get_or xs i v → true ≡ short (state v) → true ≡ lacking short n (map state xs)
-  ask_found short n xs i v a h l e q = asked short n xs i v true a h l e q
-
-  pub ask_on : (short : S → Bool) (n : ℕ) (xs : List Y) (i : ℕ) (v : Y) → Asking short n xs i → i < n → i < length xs → v ≡ get_or xs i v → false ≡ short (state v) → Asking short n xs (i + 1)
-  ask_on short n xs i v a h l e q = record { same = rw (add-one i) (asked short n xs i v false a h l e q) }
-
-  pub ask_first : (short : S → Bool) (n : ℕ) (xs : List Y) → Asking short n xs 0
-  ask_first short n xs = record { same = ap (λ (k : ℕ). lacking short k (map state xs)) (let k : n - 0 ≡ n = omega arith in k) }
-
-  pub ask_end : (short : S → Bool) (n : ℕ) (xs : List Y) (i : ℕ) → Asking short n xs i → n ≤ i → false ≡ lacking short n (map state xs)
-  ask_end short n xs i a h = ap (λ (k : ℕ). lacking short k (map state (drop i xs))) (let k : 0 ≡ n - i = omega (arith, h) in k) ∙ a.same
+      by : (o : Option Y) → slice_get xs i ≡ o → MatchOption o ((a ≡ false) × (ys ≡ xs)) (λ x. (v : Y) × R x v × (ys ≡ set xs i v)) → record { answer = a; tree = map state ys } ≡ step_at f (map state xs) i
+      by None e (stays, same) = rw stays (rw same (step_past f xs i e))
+      by (Some x) e (v, met, left) = rw left (step_slot f xs i x v a e (does x v met))

@@ -1,9 +1,7 @@
-ghost use Rattle.std.specs.Prelude.{◌≡◌, min, List, [], map, length};
-ghost use Rattle.draws.specs.Runners.{run};
-ghost use Rattle.buffers.specs.Over.{over};
-ghost use Rattle.meaning.specs.Readings.{counted, item_at};
+ghost use Rattle.std.specs.Prelude.{◌≡◌, false, List, map, MatchOption, slice_get, slice_set};
+ghost use Rattle.std.specs.Fn.{FnOnceReturnsAtMut};
 ghost use Rattle.meaning.specs.Piles.TablePile.{slice};
-ghost use Rattle.meaning.specs.Tables.{at, step_at, slice_table, grow_at, lacking, slice_growth, slice_short, slice_stated};
+ghost use Rattle.meaning.specs.Tables.{slice_table, slice_growth, slice_short, slice_stated};
 
 use draws::faults::GrowFault;
 use draws::source::Source;
@@ -26,83 +24,17 @@ impl<'a, T> SliceTable<'a, T> {
     }
 }
 
-fn len_at<T: ValueTree>(slots: &[T], i: usize) -> usize
-    ensures { result ≡ counted (length (at T.ValueTree.steps.candidate [] (map T.ValueTree.state slots.now) i)) }
+// Steps the tree in slot `i`: it is copied out, stepped, and stored back. Past the end nothing is stepped.
+fn step_at<T: Copy, F: FnOnce(&mut T) -> bool>(slots: &mut [T], i: usize, step: F) -> bool
+    requires { F.IsAlwaysCallable step }
+    ensures { MatchOption (slice_get slots.old i) ((result ≡ false) × (slots.new ≡ slots.old)) (λ x. (y : T) × FnOnceReturnsAtMut F.FnOnce step x result y × (slots.new ≡ slice_set slots.old i y)) }
 {
-    if i < slots.len() { slots[i].len() } else { 0 }
-}
-
-fn item_at<T: ValueTree>(slots: &[T], i: usize, k: usize) -> Option<T::Item>
-    ensures { result ≡ item_at (at T.ValueTree.steps.candidate [] (map T.ValueTree.state slots.now) i) k }
-{
-    if i < slots.len() {
-        slots[i].item(k)
-    } else {
-        None
-    }
-}
-
-fn copy_at<T: ValueTree>(slots: &[T], i: usize, buf: &mut [T::Item]) -> usize
-    ensures count { result ≡ min (length (at T.ValueTree.steps.candidate [] (map T.ValueTree.state slots.now) i)) (length buf.old) }
-    ensures buffer { buf.new ≡ over (at T.ValueTree.steps.candidate [] (map T.ValueTree.state slots.now) i) buf.old }
-{
-    if i < slots.len() {
-        slots[i].copy_to(buf)
-    } else {
-        0
-    }
-}
-
-fn simplify_at<T: ValueTree + Copy>(slots: &mut [T], i: usize) -> bool
-    ensures { record { answer = result; tree = map T.ValueTree.state slots.new } ≡ step_at T.ValueTree.steps.simplify (map T.ValueTree.state slots.old) i }
-{
-    if i >= slots.len() {
+    let Some(mut tree) = slots.get(i).copied() else {
         return false;
-    }
-    let mut tree = slots[i];
-    let moved = tree.simplify();
+    };
+    let moved = step(&mut tree);
     slots[i] = tree;
     moved
-}
-
-fn complicate_at<T: ValueTree + Copy>(slots: &mut [T], i: usize) -> bool
-    ensures { record { answer = result; tree = map T.ValueTree.state slots.new } ≡ step_at T.ValueTree.steps.complicate (map T.ValueTree.state slots.old) i }
-{
-    if i >= slots.len() {
-        return false;
-    }
-    let mut tree = slots[i];
-    let moved = tree.complicate();
-    slots[i] = tree;
-    moved
-}
-
-fn lacks_at<S: Strategy>(element: &S, n: usize, slots: &[S::Tree]) -> bool
-    ensures { result ≡ lacking (S.Tree.ValueTree.short element.now) n (map S.Tree.ValueTree.state slots.now) }
-{
-    if slots.len() < n {
-        return true;
-    }
-    for i in 0..n {
-        if element.lacks_slots(&slots[i]) {
-            return true;
-        }
-    }
-    false
-}
-
-fn grow_at<S: Strategy, D: Source>(
-    element: &S,
-    i: usize,
-    runner: &mut TestRunner<D>,
-    slots: &mut [S::Tree],
-) -> Result<(), GrowFault>
-    ensures { record { answer = result; runner = run D.Source.state runner.new; place = map S.Tree.ValueTree.state slots.new } ≡ grow_at (S.Tree.ValueTree.grows element.now D.Source.State D.Source.words) i (run D.Source.state runner.old) (map S.Tree.ValueTree.state slots.old) }
-{
-    if i >= slots.len() {
-        return Err(GrowFault::too_few_slots());
-    }
-    element.new_tree(runner, &mut slots[i])
 }
 
 impl<'a, T: ValueTree + Copy> Table for SliceTable<'a, T> {
@@ -125,23 +57,27 @@ impl<'a, T: ValueTree + Copy> Table for SliceTable<'a, T> {
     ghost pile = { slice T.ValueTree.steps T.ValueTree.short T.ValueTree.grows T.ValueTree.stated _ (λ p. p.element) T.ValueTree.pile };
 
     fn len_at(&self, i: usize) -> usize {
-        len_at(self.slots, i)
+        self.slots.get(i).map_or(0, T::len)
     }
 
     fn item_at(&self, i: usize, k: usize) -> Option<T::Item> {
-        item_at(self.slots, i, k)
+        self.slots.get(i)?.item(k)
     }
 
     fn copy_at(&self, i: usize, buf: &mut [T::Item]) -> usize {
-        copy_at(self.slots, i, buf)
+        // By `match`: of a buffer that a closure in `map_or` wrote, a proof would know nothing.
+        match self.slots.get(i) {
+            Some(tree) => tree.copy_to(buf),
+            None => 0,
+        }
     }
 
     fn simplify_at(&mut self, i: usize) -> bool {
-        simplify_at(self.slots, i)
+        step_at(self.slots, i, T::simplify)
     }
 
     fn complicate_at(&mut self, i: usize) -> bool {
-        complicate_at(self.slots, i)
+        step_at(self.slots, i, T::complicate)
     }
 }
 
@@ -174,7 +110,10 @@ where
     }
 
     fn lacks_slots(&self, n: usize, table: &SliceTable<'a, S::Tree>) -> bool {
-        lacks_at(&self.element, n, table.slots)
+        let Some(slots) = table.slots.get(..n) else {
+            return true;
+        };
+        slots.iter().any(|slot| self.element.lacks_slots(slot))
     }
 
     fn grow_at<D: Source>(
@@ -183,6 +122,10 @@ where
         runner: &mut TestRunner<D>,
         table: &mut SliceTable<'a, S::Tree>,
     ) -> Result<(), GrowFault> {
-        grow_at(&self.element, i, runner, table.slots)
+        // By index: of a slot that `get_mut` lent, a proof would not know what the slice ends as.
+        if i >= table.slots.len() {
+            return Err(GrowFault::too_few_slots());
+        }
+        self.element.new_tree(runner, &mut table.slots[i])
     }
 }
