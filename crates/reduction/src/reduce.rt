@@ -34,23 +34,15 @@ fn reduce_grown<T: ValueTree, V: Verdict<T::Item>, W: Witness<T::Item>>(
     ensures outcome { record { answer = Ok result; tree = T.ValueTree.state tree.new; buffer = buffer.new } ≡ done_after T.ValueTree.steps 0 (reduction T.ValueTree.steps (V.Verdict.judges verdict.now) budget true [] (T.ValueTree.state tree.old)) buffer.old }
     ensures told { W.Witness.state witness.new ≡ heard T.ValueTree.steps (roomy (length buffer.old) W.Witness.hears) (reduction T.ValueTree.steps (V.Verdict.judges verdict.now) budget true [] (T.ValueTree.state tree.old)).own (W.Witness.state witness.old) }
 {
-    let mut verdicts: u32 = 0;
-    let mut length: usize = 0;
-    while verdicts < budget {
-        verdicts += 1;
+    let mut length = 0;
+    for verdicts in 1..=budget {
         let failed = verdict.fails(tree);
         witness.hear(Notice::Judged(failed), tree);
-        if failed {
+        let moved = if failed {
             length = tree.copy_to(buffer);
             let moved = tree.simplify();
             witness.hear(Notice::Simplified(moved), tree);
-            if !moved {
-                return Reduced {
-                    end: End::Ended,
-                    verdicts,
-                    length,
-                };
-            }
+            moved
         } else if verdicts == 1 {
             return Reduced {
                 end: End::Passes,
@@ -60,18 +52,19 @@ fn reduce_grown<T: ValueTree, V: Verdict<T::Item>, W: Witness<T::Item>>(
         } else {
             let moved = tree.complicate();
             witness.hear(Notice::Complicated(moved), tree);
-            if !moved {
-                return Reduced {
-                    end: End::Ended,
-                    verdicts,
-                    length,
-                };
-            }
+            moved
+        };
+        if !moved {
+            return Reduced {
+                end: End::Ended,
+                verdicts,
+                length,
+            };
         }
     }
     Reduced {
         end: End::Spent,
-        verdicts,
+        verdicts: budget,
         length,
     }
 }
