@@ -8,7 +8,7 @@ use meaning::reduction::{End, Notice, ReduceFault, Reduced};
 use meaning::traits::{ValueTree, Verdict, Witness};
 
 // A witness that takes no note of anything.
-#[derive(Clone, Copy)]
+#[derive(Clone, Copy, Debug, PartialEq, Eq)]
 pub struct Silent {}
 
 impl<I> Witness<I> for Silent {

@@ -11,8 +11,9 @@ use draws::test_runner::TestRunner;
 use meaning::reduction::Notice;
 use meaning::traits::{Strategy, ValueTree, Verdict, Witness};
 
-// A call that a script asks for: a step, a reading, or a reduction by a verdict with a budget.
-#[derive(Clone, Copy)]
+// A call that a script asks for: a step, a reading, or a reduction by a verdict with a budget. It is data, and no table of
+// closures: the history of a trial is read from it.
+#[derive(Clone, Copy, Debug, PartialEq, Eq)]
 pub enum Call<V> {
     Simplify,
     Complicate,

@@ -4,7 +4,7 @@ ghost use Rattle.reduction.specs.Verdicts.{numbered, holds, more_than};
 use meaning::traits::{ValueTree, Verdict};
 
 // Fails where a given number is among the items.
-#[derive(Clone, Copy)]
+#[derive(Clone, Copy, Debug, PartialEq, Eq)]
 pub struct Holds {
     number: u64,
 }
@@ -21,19 +21,12 @@ impl Verdict<u64> for Holds {
     ghost judges = { λ v xs. holds v.number (numbered xs) };
 
     fn fails<T: ValueTree<Item = u64>>(&self, tree: &T) -> bool {
-        for i in 0..tree.len() {
-            if let Some(x) = tree.item(i) {
-                if x == self.number {
-                    return true;
-                }
-            }
-        }
-        false
+        (0..tree.len()).any(|i| tree.item(i) == Some(self.number))
     }
 }
 
 // Fails where there are more than so many items.
-#[derive(Clone, Copy)]
+#[derive(Clone, Copy, Debug, PartialEq, Eq)]
 pub struct MoreThan {
     most: usize,
 }

@@ -20,16 +20,16 @@ returns g c =
 -- either step, where the two join
 stepped : (g : _) (c : Joined-failed g) →
     (let t = g.T.ValueTree.steps in
-     let hears = roomy (length c.args.buffer.now) g.W.Witness.hears in
-     let fails = g.V.Verdict.judges c.args.verdict.now in
-     Stepping t hears fails (full t hears fails c.args.budget (g.T.ValueTree.state c.args.tree.now) c.args.buffer.now (g.W.Witness.state c.args.witness.now)) c.args.budget c.loop-verdicts.verdicts c.if-failed.length c.if-failed.moved (g.T.ValueTree.state c.if-failed.tree) c.if-failed.buffer (g.W.Witness.state c.if-failed.witness))
+    let hears = roomy (length c.args.buffer.now) g.W.Witness.hears in
+    let fails = g.V.Verdict.judges c.args.verdict.now in
+    Stepping t hears fails (full t hears fails c.args.budget (g.T.ValueTree.state c.args.tree.now) c.args.buffer.now (g.W.Witness.state c.args.witness.now)) c.args.budget c.loop-verdicts.verdicts c.if-failed.length c.if-failed.moved (g.T.ValueTree.state c.if-failed.tree) c.if-failed.buffer (g.W.Witness.state c.if-failed.witness))
 stepped g c = elim c.if-failed.branch [
   | then-failed w ↦
-    rw (w.length-is, w.tree-is, w.buffer-is, w.witness-is, w.moved-is)
-    (judged_fail (loop_judged c.loop-verdicts.invariant c.loop-verdicts-test.true _ c.fails-failed.ensures _ c.hear.ensures true w.if-failed.true) _ w.copy_to-length.ensures.count _ w.copy_to-length.ensures.buffer _ _ w.simplify-moved.ensures _ w.hear-then-failed.ensures)
+      rw (w.length-is, w.tree-is, w.buffer-is, w.witness-is, w.moved-is)
+      (judged_fail (loop_judged c.loop-verdicts.invariant c.loop-verdicts-test.true _ c.fails-failed.ensures _ c.hear.ensures true w.if-failed.true) _ w.copy_to-length.ensures.count _ w.copy_to-length.ensures.buffer _ _ w.simplify-moved.ensures _ w.hear-then-failed.ensures)
   | else-failed+else-verdicts-eq1 w ↦
-    rw (w.length-is, w.tree-is, w.buffer-is, w.witness-is, w.moved-is)
-    (passed_later (loop_judged c.loop-verdicts.invariant c.loop-verdicts-test.true _ c.fails-failed.ensures _ c.hear.ensures false w.if-failed.false) w.if-verdicts-eq1.false _ _ w.complicate-moved.ensures _ w.hear-else-verdicts-eq1.ensures)
+      rw (w.length-is, w.tree-is, w.buffer-is, w.witness-is, w.moved-is)
+      (passed_later (loop_judged c.loop-verdicts.invariant c.loop-verdicts-test.true _ c.fails-failed.ensures _ c.hear.ensures false w.if-failed.false) w.if-verdicts-eq1.false _ _ w.complicate-moved.ensures _ w.hear-else-verdicts-eq1.ensures)
 ]
 
 pub returns-then-not-moved : goal.returns-then-not-moved

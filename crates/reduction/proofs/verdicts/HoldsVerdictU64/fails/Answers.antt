@@ -1,13 +1,11 @@
-use Rattle.std.proofs.Common.{sym, ◌∙◌}
-use Rattle.reduction.proofs.Holding.{hold_found, hold_on, hold_none, hold_end}
+use Rattle.std.proofs.Common.{rules, tests, ◌∙◌, refl, arith}
+use Rattle.std.proofs.lemmas.Iterator.{YieldsList-from_range}
+use Rattle.std.proofs.lemmas.Iterator.Search.{any_from_yields_List}
+use Rattle.reduction.proofs.Holding.{item_is, held}
 use Rattle.reduction.proofs.verdicts.HoldsVerdictU64.fails.Goals as goal
-use Rattle.reduction.proofs.verdicts.HoldsVerdictU64.fails.Goals.{in-Some+else-x-self, in_default}
-
-pub returns-then-x-self : goal.returns-then-x-self
-returns-then-x-self g c = hold_found c.loop-i.invariant _ c.len-i-end.ensures c.loop-i-test.true _ (sym c.in-Some.is ∙ c.item.ensures) c.if-x-self.true
-
-pub loop-i-preserved : goal.loop-i-preserved
-loop-i-preserved g c = elim c.match-item.branch [ in-Some+else-x-self w ↦ hold_on c.loop-i.invariant _ c.len-i-end.ensures c.loop-i-test.true _ (sym w.in-Some.is ∙ c.item.ensures) w.if-x-self.false | in_default w ↦ hold_none c.loop-i.invariant _ c.len-i-end.ensures c.loop-i-test.true (sym w.in_default.is ∙ c.item.ensures) ]
 
 pub returns : goal.returns
-returns g c = hold_end c.loop-i.invariant _ c.len-i-end.ensures c.loop-i-test.false
+returns g c =
+    let items = g.T.ValueTree.steps.candidate (g.T.ValueTree.state c.args.tree.now) in
+    any_from_yields_List (item_is c.args.self.now.number items) _ _ _ c.any.ensures.ran (YieldsList-from_range 0 c.len.result c.len.result refl (omega arith)) (λ x b q k. search (rules, tests))
+    ∙ held c.args.self.now.number items c.len.result c.len.ensures
