@@ -1,3 +1,4 @@
+mod Along
 mod Giving
 mod Looping
 mod Playing

@@ -17,7 +17,7 @@ returns g c = record {
       let grown = g.S.Tree.ValueTree.grows c.args.strategy.now g.D.Source.State g.D.Source.words from (g.S.Tree.ValueTree.state c.args.place.now) in
       let accepted = ap (λ (o : Outcome g.D.Source.State g.S.Tree.ValueTree.State). o.answer) c.in_ok-new_tree.ensures in
       tried_grown g.S.Tree.ValueTree.steps (roomy (length c.args.buffer.now) g.W.Witness.hears) (map (called g.V.Verdict.judges (length c.args.buffer.now)) c.args.script.now) _ c.args.buffer.now (g.W.Witness.state c.args.witness.now) _ _ _ c.in_ok-new_tree.ensures c.play_all.ensures
-      ∙ tried_whole (pile_keeps pile) g.V.Verdict.judges (length c.args.buffer.now) g.W.Witness.hears c.args.script.now grown c.args.buffer.now (g.W.Witness.state c.args.witness.now) (sym accepted)
+      ∙ tried_whole (pile_keeps pile) g.W.Witness.hears (length c.args.buffer.now) g.V.Verdict.judges c.args.script.now grown c.args.buffer.now (g.W.Witness.state c.args.witness.now) (sym accepted)
       ((pile_roots pile).accepted c.args.strategy.now g.D.Source.State g.D.Source.words from (g.S.Tree.ValueTree.state c.args.place.now) (sym accepted)).0.is_sound;
 }
 
