@@ -1,17 +1,17 @@
 -- What a sound tree's reductions give fits a buffer that has room for the stated longest, so a witness hears of it whole.
 
-use Rattle.std.proofs.Common.{◌≡◌, ℕ, ◌≤◌, Bool, true, List, [], ◌∷◌, ◌++◌, map, length, Some, None, Ok, Option, sym, refl, ap, ◌∙◌, arith, take_all}
+use Rattle.std.proofs.Common.{◌≡◌, ℕ, ◌≤◌, Bool, true, List, [], ◌∷◌, ◌++◌, map, length, Some, None, Ok, Option, refl, ap, ◌∙◌, arith, take_all}
 use Rattle.meaning.specs.declared.reduction.ReduceFault.{ReduceFault}
 use Rattle.meaning.specs.Trees.{Steps, Keeps}
-use Rattle.meaning.specs.Growths.{Grown, Outcome}
+use Rattle.meaning.specs.Growths.{Outcome}
 use Rattle.meaning.specs.Reductions.{Happening, Event, still, Reduction, reduction, refusal, copied}
-use Rattle.meaning.specs.Reductions.Happening.{simplify, complicate, reading, verdict, refused as turned_down, start, report}
+use Rattle.meaning.specs.Reductions.Happening.{report}
 use Rattle.meaning.specs.Runs.{report_of, reduced, history}
 use Rattle.meaning.proofs.Promising.{accepted, law_whole}
 use Rattle.reduction.proofs.Along.{Cases, along}
 use Rattle.reduction.specs.declared.trial.Call.{Call as Entry}
 use Rattle.reduction.specs.declared.trial.Call.TheVariants.{Simplify, Complicate, Look, Reduce}
-use Rattle.reduction.specs.Trials.{called, left_by, roomy, heard, tried, by_growth, Tried}
+use Rattle.reduction.specs.Trials.{called, left_by, roomy, heard, tried, Tried}
 
 module _ {S I W : Type 0} {t : Steps S I} {sound : S → Type 0} (k : Keeps t sound) (hears : W → Happening I → List I → W) (room : ℕ) where
   -- events that are told whole
@@ -64,6 +64,4 @@ module _ {S I W : Type 0} {t : Steps S I} {sound : S → Type 0} (k : Keeps t so
     tried_whole {X} script o b w e s =
         let calls = map (called judges room) script in
         let made : W → Tried X S I W = λ x. record { answer = Ok tt; runner = o.runner; left = record { tree = left_by o.place (history t calls o.place); buffer = copied t (history t calls o.place) b; witness = x } } in
-        ap (λ (a : Grown). by_growth t (roomy room hears) calls o a b w) e
-        ∙ ap made (told_history script o.place s w)
-        ∙ ap (λ (a : Grown). by_growth t hears calls o a b w) (sym e)
+        rw e (ap made (told_history script o.place s w))
