@@ -12,7 +12,7 @@ use Rattle.meaning.specs.Reductions.Happening.{start, report}
 use Rattle.meaning.specs.Runs.{Call, report_of, reduced, history}
 use Rattle.meaning.specs.Runs.Call.{simplifying, complicating, looking, reducing}
 use Rattle.reduction.specs.declared.trial.Call.{Call as Entry}
-use Rattle.reduction.specs.Trials.{called, left_by, roomy, heard, Left, leaves, tried}
+use Rattle.reduction.specs.Trials.{called, left_by, roomy, heard, Left, leaves, played, tried}
 use Rattle.reduction.proofs.Giving.{gives_whole}
 
 module _ {S I W : Type 0} (t : Steps S I) (hears : W → Happening I → List I → W) where
@@ -135,26 +135,17 @@ module _ {S I W : Type 0} (t : Steps S I) (base : W → Happening I → List I �
             ∙ ap (λ (q : Option ReduceFault). heard t (roomy (length b) base) (reduced budget s q r (λ x. [])) w) e;
       }
 
-  -- what is left of the script from entry i on makes the whole
-  pub record Playing {V : Type 0} (judges : V → List I → Bool) (room : ℕ) (script : List (Entry V)) (all : Left S I W) (i : ℕ) (s : S) (b : List I) (w : W) : Type 0 where
-    pub kept : length b ≡ room
-    pub same : leaves_by t (roomy room base) (map (called judges room) (drop i script)) s b w ≡ all
+  -- what is left of the script, from entry i on, makes the whole
+  module _ {V : Type 0} (judges : V → List I → Bool) (script : List (Entry V)) (i : ℕ) (l all : Left S I W) (p : played t judges base (drop i script) l ≡ all) where
+    pub play_on : i < length script → (entry : Entry V) → entry ≡ get_or script i entry → (l' : Left S I W) → length l'.buffer ≡ length l.buffer → l' ≡ played t judges base (entry ∷ []) l → played t judges base (drop (i + 1) script) l' ≡ all
+    play_on h entry x l' n e =
+        let rest = drop (i + 1) script in
+        let room = length l.buffer in
+        let here : drop i script ≡ entry ∷ rest = rw (add-one i) (drop-cons script i entry h ∙ ap (λ (y : Entry V). y ∷ drop (suc i) script) (sym x)) in
+        ap (λ (m : ℕ). leaves_by t (roomy m base) (map (called judges m) rest) l'.tree l'.buffer l'.witness) n
+        ∙ leaves_cons t (roomy room base) (called judges room entry) (map (called judges room) rest) l.tree l.buffer l.witness l' e
+        ∙ ap (λ (es : List (Entry V)). played t judges base es l) (sym here)
+        ∙ p
 
-  module _ {V : Type 0} (judges : V → List I → Bool) where
-    pub play_first : (script : List (Entry V)) (s : S) (b : List I) (w : W) → Playing judges (length b) script (leaves_by t (roomy (length b) base) (map (called judges (length b)) script) s b w) 0 s b w
-    play_first script s b w = record { kept = refl; same = refl }
-
-    pub play_on : {room : ℕ} {script : List (Entry V)} {all : Left S I W} {i : ℕ} {s : S} {b : List I} {w : W} → Playing judges room script all i s b w → i < length script → (entry : Entry V) → entry ≡ get_or script i entry
-        → (l : Left S I W) → length l.buffer ≡ length b → l ≡ leaves_by t (roomy (length b) base) (called judges (length b) entry ∷ []) s b w → Playing judges room script all (i + 1) l.tree l.buffer l.witness
-    play_on {room} {script} {all} {i} {s} {b} {w} p h entry x l n e =
-        let here : drop i script ≡ entry ∷ drop (i + 1) script = rw (add-one i) (drop-cons script i entry h ∙ ap (λ (y : Entry V). y ∷ drop (suc i) script) (sym x)) in
-        record {
-          kept = n ∙ p.kept;
-          same =
-              leaves_cons t (roomy room base) (called judges room entry) (map (called judges room) (drop (i + 1) script)) s b w l (e ∙ ap (λ (m : ℕ). leaves_by t (roomy m base) (called judges m entry ∷ []) s b w) p.kept)
-              ∙ ap (λ (es : List (Entry V)). leaves_by t (roomy room base) (map (called judges room) es) s b w) (sym here)
-              ∙ p.same;
-        }
-
-    pub play_end : {room : ℕ} {script : List (Entry V)} {all : Left S I W} {i : ℕ} {s : S} {b : List I} {w : W} → Playing judges room script all i s b w → length script ≤ i → record { tree = s; buffer = b; witness = w } ≡ all
-    play_end {room} {script} {all} {i} {s} {b} {w} p h = ap (λ (es : List (Entry V)). leaves_by t (roomy room base) (map (called judges room) es) s b w) (sym (drop_of_length-le script h)) ∙ p.same
+    pub play_end : length script ≤ i → l ≡ all
+    play_end h = ap (λ (es : List (Entry V)). played t judges base es l) (sym (drop_of_length-le script h)) ∙ p

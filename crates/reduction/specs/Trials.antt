@@ -6,10 +6,11 @@
 --   Left       what some calls leave: the tree, the result buffer, the witness
 --   leaves     what a history leaves: the tree after its last event, in the buffer each list that failed, copied over the first
 --              items, and the witness that heard it
+--   played     what some entries of a script leave of what there was before them
 --   Tried      what a trial answers and leaves
 --   tried      growth, and where it is accepted what the history of the script's calls leaves; `by_growth`, by growth's answer
 
-use Rattle.std.specs.Prelude.{ℕ, Bool, List, [], ◌∷◌, take, Ok, Err}
+use Rattle.std.specs.Prelude.{ℕ, Bool, List, [], ◌∷◌, map, length, take, Ok, Err}
 use Rattle.draws.specs.Runners.{RunnerState}
 use Rattle.meaning.specs.Trees.{Steps}
 use Rattle.meaning.specs.Growths.{Grown, Outcome}
@@ -51,6 +52,9 @@ pub record Left (S I W : Type 0) : Type 0 where
 
 abbrev pub leaves : {S I W : Type 0} → Steps S I → (W → Happening I → List I → W) → List (Event S I) → S → List I → W → Left S I W
 leaves t hears h s buffer w = record { tree = left_by s h; buffer = copied t h buffer; witness = heard t hears h w }
+
+abbrev pub played : {V S I W : Type 0} → Steps S I → (V → List I → Bool) → (W → Happening I → List I → W) → List (Entry V) → Left S I W → Left S I W
+played t judges hears script before = leaves t (roomy (length before.buffer) hears) (history t (map (called judges (length before.buffer)) script) before.tree) before.tree before.buffer before.witness
 
 pub record Tried (X S I W : Type 0) : Type 0 where
   pub answer : Grown

@@ -1,8 +1,7 @@
 ghost use Rattle.std.specs.Prelude.{◌≡◌, [], ◌∷◌, map, length};
 ghost use Rattle.draws.specs.Runners.{run};
 ghost use Rattle.meaning.specs.Piles.{Promise};
-ghost use Rattle.meaning.specs.Runs.{history};
-ghost use Rattle.reduction.specs.Trials.{roomy, called, leaves, tried};
+ghost use Rattle.reduction.specs.Trials.{called, played, tried};
 
 use crate::reduce::reduce_before;
 use draws::faults::GrowFault;
@@ -21,14 +20,15 @@ pub enum Call<V> {
     Reduce(V, u32),
 }
 
-// Makes one call.
+// Makes one call. The tree, the buffer and the witness stay three parameters: a struct of the three borrows would be no plainer,
+// since each of its methods would have to promise besides that each borrow is still the same one.
 fn play<T: ValueTree, V: Verdict<T::Item>, W: Witness<T::Item>>(
     tree: &mut T,
     call: &Call<V>,
     buffer: &mut [T::Item],
     witness: &mut W,
 )
-    ensures { record { tree = T.ValueTree.state tree.new; buffer = buffer.new; witness = W.Witness.state witness.new } ≡ leaves T.ValueTree.steps (roomy (length buffer.old) W.Witness.hears) (history T.ValueTree.steps (called V.Verdict.judges (length buffer.old) call.now ∷ []) (T.ValueTree.state tree.old)) (T.ValueTree.state tree.old) buffer.old (W.Witness.state witness.old) }
+    ensures { record { tree = T.ValueTree.state tree.new; buffer = buffer.new; witness = W.Witness.state witness.new } ≡ played T.ValueTree.steps V.Verdict.judges W.Witness.hears (call.now ∷ []) (record { tree = T.ValueTree.state tree.old; buffer = buffer.old; witness = W.Witness.state witness.old }) }
 {
     match call {
         Call::Simplify => {
@@ -53,7 +53,7 @@ fn play_all<T: ValueTree, V: Verdict<T::Item>, W: Witness<T::Item>>(
     buffer: &mut [T::Item],
     witness: &mut W,
 )
-    ensures { record { tree = T.ValueTree.state tree.new; buffer = buffer.new; witness = W.Witness.state witness.new } ≡ leaves T.ValueTree.steps (roomy (length buffer.old) W.Witness.hears) (history T.ValueTree.steps (map (called V.Verdict.judges (length buffer.old)) script.now) (T.ValueTree.state tree.old)) (T.ValueTree.state tree.old) buffer.old (W.Witness.state witness.old) }
+    ensures { record { tree = T.ValueTree.state tree.new; buffer = buffer.new; witness = W.Witness.state witness.new } ≡ played T.ValueTree.steps V.Verdict.judges W.Witness.hears script.now (record { tree = T.ValueTree.state tree.old; buffer = buffer.old; witness = W.Witness.state witness.old }) }
 {
     for call in script {
         play(tree, call, buffer, witness);
