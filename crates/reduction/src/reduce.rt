@@ -9,7 +9,7 @@ use meaning::traits::{ValueTree, Verdict, Witness};
 
 // A witness that takes no note of anything.
 #[derive(Clone, Copy, Debug, PartialEq, Eq)]
-pub struct Silent {}
+pub struct Silent;
 
 impl<I> Witness<I> for Silent {
     ghost State = { Unit {0} };
@@ -116,5 +116,5 @@ pub fn reduce<T: ValueTree, V: Verdict<T::Item>>(
 ) -> Result<Reduced, ReduceFault>
     ensures { record { answer = result; tree = T.ValueTree.state tree.new; buffer = buffer.new } ≡ reduces T.ValueTree.steps (V.Verdict.judges verdict.now) budget (T.ValueTree.state tree.old) buffer.old }
 {
-    reduce_before(tree, verdict, budget, buffer, &mut Silent {})
+    reduce_before(tree, verdict, budget, buffer, &mut Silent)
 }
