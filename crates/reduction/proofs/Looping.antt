@@ -54,16 +54,6 @@ pub record Looping {S I W : Type 0} (t : Steps S I) (hears : W → Happening I �
   pub long : len ≡ min (length so_far) (length b)
   pub same : course t hears made (reduction t fails rest (eqb made 0) so_far s) b w ≡ whole
 
--- after that verdict, which says f
-pub record Judging {S I W : Type 0} (t : Steps S I) (hears : W → Happening I → List I → W) (fails : List I → Bool) (whole : Course S I W) (budget number len : ℕ) (f : Bool) (s : S) (b : List I) (w : W) : Type 0 where
-  pub so_far : List I
-  pub made : ℕ
-  pub rest : ℕ
-  pub next : number ≡ made + 1
-  pub count : rest + number ≡ budget
-  pub long : len ≡ min (length so_far) (length b)
-  pub same : course t hears number (judged t f (eqb made 0) (t.candidate s) so_far s (reduction t fails rest false (t.candidate s) (t.simplify s).tree) (reduction t fails rest false so_far (t.complicate s).tree)) (cond f (over (t.candidate s) b) b) w ≡ whole
-
 -- after the step that followed it, which answered `moved`
 pub record Stepping {S I W : Type 0} (t : Steps S I) (hears : W → Happening I → List I → W) (fails : List I → Bool) (whole : Course S I W) (budget number len : ℕ) (moved : Bool) (s : S) (b : List I) (w : W) : Type 0 where
   pub so_far : List I
@@ -92,21 +82,28 @@ module _ {S I W : Type 0} {t : Steps S I} {hears : W → Happening I → List I 
       here zero k e = same_course Spent _ _ _ _ s b w (omega (arith, k)) l.long ∙ e
       here (suc n) k e = let m = l.next in absurd (omega (arith, k, h, m))
 
-  pub loop_judged : Looping t hears fails whole budget number len s b w → number ≤ budget → (f : Bool) → f ≡ fails (t.candidate s) → (w' : W) → w' ≡ hears w (verdict f) (t.candidate s) → (failed : Bool) → f ≡ failed → Judging t hears fails whole budget number len failed s b w'
-  loop_judged l h f e w' q failed same = subst (λ (f : Bool). Judging t hears fails whole budget number len f s b w') same (here l.rest l.count l.same)
+module _ {S I W : Type 0} {t : Steps S I} {hears : W → Happening I → List I → W} {fails : List I → Bool} {whole : Course S I W} {budget number len : ℕ} {s : S} {b : List I} {w : W} (l : Looping t hears fails whole budget number len s b w) where
+  -- what follows that verdict
+  abbrev following : (rest : ℕ) (first failed : Bool) → Reduction S I
+  following rest first failed = judged t failed first (t.candidate s) l.so_far s (reduction t fails rest false (t.candidate s) (t.simplify s).tree) (reduction t fails rest false l.so_far (t.complicate s).tree)
+
+  -- once it is made, and told
+  pub record Judging (failed : Bool) (w' : W) : Type 0 where
+    pub rest : ℕ
+    pub count : rest + number ≡ budget
+    pub same : course t hears number (following rest (eqb l.made 0) failed) (cond failed (over (t.candidate s) b) b) w' ≡ whole
+
+  pub loop_judged : number ≤ budget → (f : Bool) → f ≡ fails (t.candidate s) → (w' : W) → w' ≡ hears w (verdict f) (t.candidate s) → (failed : Bool) → f ≡ failed → Judging failed w'
+  loop_judged h f e w' q failed same = subst (λ (f : Bool). Judging f w') same (here l.rest l.count l.same)
     where
-      here : (n : ℕ) → n + l.made ≡ budget → course t hears l.made (reduction t fails n (eqb l.made 0) l.so_far s) b w ≡ whole → Judging t hears fails whole budget number len f s b w'
+      here : (n : ℕ) → n + l.made ≡ budget → course t hears l.made (reduction t fails n (eqb l.made 0) l.so_far s) b w ≡ whole → Judging f w'
       here zero k p = let m = l.next in absurd (omega (arith, k, h, m))
       here (suc n) k p =
           let m = l.next in
-          let after : Bool → Reduction S I = λ f. judged t f (eqb l.made 0) (t.candidate s) l.so_far s (reduction t fails n false (t.candidate s) (t.simplify s).tree) (reduction t fails n false l.so_far (t.complicate s).tree) in
+          let after = following n (eqb l.made 0) in
           record {
-            so_far = l.so_far;
-            made = l.made;
             rest = n;
-            next = m;
             count = omega (arith, k, m);
-            long = l.long;
             same =
                 ap (λ (x : ℕ). course t hears x (after f) (cond f (over (t.candidate s) b) b) w') m
                 ∙ ap (λ (w : W). course t hears (l.made + 1) (after f) (cond f (over (t.candidate s) b) b) w) q
@@ -116,49 +113,52 @@ module _ {S I W : Type 0} {t : Steps S I} {hears : W → Happening I → List I 
           }
 
   -- after a fail the candidate is the list so far, and a step is made from it
-  pub judged_fail : Judging t hears fails whole budget number len true s b w → (n : ℕ) → n ≡ min (length (t.candidate s)) (length b) → (b' : List I) → b' ≡ over (t.candidate s) b → (moved : Bool) (s' : S) → record { answer = moved; tree = s' } ≡ t.simplify s → (w' : W) → w' ≡ hears w (simplify moved) (t.candidate s') → Stepping t hears fails whole budget number n moved s' b' w'
-  judged_fail j n e b' q moved s' p w' told = let m = j.next in record {
-    so_far = t.candidate s;
-    rest = j.rest;
-    some = λ z. omega (arith, z, m);
-    count = j.count;
-    long = e ∙ ap (λ (m : ℕ). min (length (t.candidate s)) m) (sym (ap length q ∙ length_over (t.candidate s) b));
-    same =
-        ap (λ (x : List I). course t hears number (after (record { answer = moved; tree = s' })) x w') q
-        ∙ ap (λ (x : W). course t hears number (after (record { answer = moved; tree = s' })) (over (t.candidate s) b) x) told
-        ∙ after_simplify t hears number s (record { answer = moved; tree = s' }) (after (record { answer = moved; tree = s' })) (over (t.candidate s) b) w
-        ∙ ap (λ (st : Stepped S). course t hears number (by_step simplify s (t.candidate s) st (reduction t fails j.rest false (t.candidate s) st.tree)) (over (t.candidate s) b) w) p
-        ∙ j.same;
-  }
-    where
-      after : Stepped S → Reduction S I
-      after st = cond st.answer (reduction t fails j.rest false (t.candidate s) st.tree) (over_at Ended (t.candidate s) st.tree)
+  pub judged_fail : {w : W} → Judging true w → (n : ℕ) → n ≡ min (length (t.candidate s)) (length b) → (b' : List I) → b' ≡ over (t.candidate s) b → (moved : Bool) (s' : S) → record { answer = moved; tree = s' } ≡ t.simplify s → (w' : W) → w' ≡ hears w (simplify moved) (t.candidate s') → Stepping t hears fails whole budget number n moved s' b' w'
+  judged_fail {w} j n e b' q moved s' p w' told =
+      let m = l.next in
+      let after : Stepped S → Reduction S I = λ st. cond st.answer (reduction t fails j.rest false (t.candidate s) st.tree) (over_at Ended (t.candidate s) st.tree) in
+      let made : Stepped S = record { answer = moved; tree = s' } in
+      record {
+        so_far = t.candidate s;
+        rest = j.rest;
+        some = λ z. omega (arith, z, m);
+        count = j.count;
+        long = e ∙ ap (λ (m : ℕ). min (length (t.candidate s)) m) (sym (ap length q ∙ length_over (t.candidate s) b));
+        same =
+            ap (λ (x : List I). course t hears number (after made) x w') q
+            ∙ ap (λ (x : W). course t hears number (after made) (over (t.candidate s) b) x) told
+            ∙ after_simplify t hears number s made (after made) (over (t.candidate s) b) w
+            ∙ ap (λ (st : Stepped S). course t hears number (preceded (step simplify s st) (after st)) (over (t.candidate s) b) w) p
+            ∙ j.same;
+      }
 
-  -- after a pass: whether it is the first
-  passed : (j : Judging t hears fails whole budget number len false s b w) (first : Bool) → eqb j.made 0 ≡ first → course t hears number (judged t false first (t.candidate s) j.so_far s (reduction t fails j.rest false (t.candidate s) (t.simplify s).tree) (reduction t fails j.rest false j.so_far (t.complicate s).tree)) b w ≡ whole
-  passed j first e = ap (λ (first : Bool). course t hears number (judged t false first (t.candidate s) j.so_far s (reduction t fails j.rest false (t.candidate s) (t.simplify s).tree) (reduction t fails j.rest false j.so_far (t.complicate s).tree)) b w) (sym e) ∙ j.same
+  -- after a pass it matters whether it is the first
+  passed : {w : W} (j : Judging false w) (first : Bool) → eqb l.made 0 ≡ first → course t hears number (following j.rest first false) b w ≡ whole
+  passed {w} j first e = ap (λ (first : Bool). course t hears number (following j.rest first false) b w) (sym e) ∙ j.same
 
-  pub passed_first : Judging t hears fails whole budget number len false s b w → number ≡ 1 → Answered whole (record { end = Passes; verdicts = number; length = 0 }) s b w
-  passed_first j e = let m = j.next in answered _ s b w (same_course Passes _ _ _ _ s b w (omega arith) (omega arith) ∙ passed j true (eq-eqb j.made 0 (omega (arith, e, m))))
+  pub passed_first : {w : W} → Judging false w → number ≡ 1 → Answered whole (record { end = Passes; verdicts = number; length = 0 }) s b w
+  passed_first {w} j e = let m = l.next in answered _ s b w (same_course Passes _ _ _ _ s b w (omega arith) (omega arith) ∙ passed j true (eq-eqb l.made 0 (omega (arith, e, m))))
 
   -- after a later one a step is made towards the list so far
-  pub passed_later : Judging t hears fails whole budget number len false s b w → (number ≡ 1 → ⊥) → (moved : Bool) (s' : S) → record { answer = moved; tree = s' } ≡ t.complicate s → (w' : W) → w' ≡ hears w (complicate moved) (t.candidate s') → Stepping t hears fails whole budget number len moved s' b w'
-  passed_later j later moved s' p w' told = let m = j.next in record {
-    so_far = j.so_far;
-    rest = j.rest;
-    some = λ z. omega (arith, z, m);
-    count = j.count;
-    long = j.long;
-    same =
-        ap (λ (x : W). course t hears number (after (record { answer = moved; tree = s' })) b x) told
-        ∙ after_complicate t hears number s (record { answer = moved; tree = s' }) (after (record { answer = moved; tree = s' })) b w
-        ∙ ap (λ (st : Stepped S). course t hears number (by_step complicate s j.so_far st (reduction t fails j.rest false j.so_far st.tree)) b w) p
-        ∙ passed j false (ne_eqb j.made 0 (λ z. later (omega (arith, z, m))));
-  }
-    where
-      after : Stepped S → Reduction S I
-      after st = cond st.answer (reduction t fails j.rest false j.so_far st.tree) (over_at Ended j.so_far st.tree)
+  pub passed_later : {w : W} → Judging false w → (number ≡ 1 → ⊥) → (moved : Bool) (s' : S) → record { answer = moved; tree = s' } ≡ t.complicate s → (w' : W) → w' ≡ hears w (complicate moved) (t.candidate s') → Stepping t hears fails whole budget number len moved s' b w'
+  passed_later {w} j later moved s' p w' told =
+      let m = l.next in
+      let after : Stepped S → Reduction S I = λ st. cond st.answer (reduction t fails j.rest false l.so_far st.tree) (over_at Ended l.so_far st.tree) in
+      let made : Stepped S = record { answer = moved; tree = s' } in
+      record {
+        so_far = l.so_far;
+        rest = j.rest;
+        some = λ z. omega (arith, z, m);
+        count = j.count;
+        long = l.long;
+        same =
+            ap (λ (x : W). course t hears number (after made) b x) told
+            ∙ after_complicate t hears number s made (after made) b w
+            ∙ ap (λ (st : Stepped S). course t hears number (preceded (step complicate s st) (after st)) b w) p
+            ∙ passed j false (ne_eqb l.made 0 (λ z. later (omega (arith, z, m))));
+      }
 
+module _ {S I W : Type 0} {t : Steps S I} {hears : W → Happening I → List I → W} {fails : List I → Bool} {whole : Course S I W} {budget number len : ℕ} {s : S} {b : List I} {w : W} where
   -- no step was left, or the next verdict follows
 
   pub step_ended : {moved : Bool} → Stepping t hears fails whole budget number len moved s b w → moved ≡ false → Answered whole (record { end = Ended; verdicts = number; length = len }) s b w

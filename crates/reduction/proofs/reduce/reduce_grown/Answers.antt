@@ -9,7 +9,7 @@ loop-verdicts-init g c = loop_first g.T.ValueTree.steps (roomy (length c.args.bu
 
 pub returns-then-verdicts-eq1 : goal.returns-then-verdicts-eq1
 returns-then-verdicts-eq1 g c =
-    let a = passed_first (loop_judged c.loop-verdicts.invariant c.loop-verdicts-test.true _ c.fails-failed.ensures _ c.hear.ensures false c.if-failed.false) c.if-verdicts-eq1.true in
+    let a = passed_first c.loop-verdicts.invariant (loop_judged c.loop-verdicts.invariant c.loop-verdicts-test.true _ c.fails-failed.ensures _ c.hear.ensures false c.if-failed.false) c.if-verdicts-eq1.true in
     record { outcome = a.outcome; told = a.told }
 
 pub returns : goal.returns
@@ -26,10 +26,10 @@ stepped : (g : _) (c : Joined-failed g) →
 stepped g c = elim c.if-failed.branch [
   | then-failed w ↦
       rw (w.length-is, w.tree-is, w.buffer-is, w.witness-is, w.moved-is)
-      (judged_fail (loop_judged c.loop-verdicts.invariant c.loop-verdicts-test.true _ c.fails-failed.ensures _ c.hear.ensures true w.if-failed.true) _ w.copy_to-length.ensures.count _ w.copy_to-length.ensures.buffer _ _ w.simplify-moved.ensures _ w.hear-then-failed.ensures)
+      (judged_fail c.loop-verdicts.invariant (loop_judged c.loop-verdicts.invariant c.loop-verdicts-test.true _ c.fails-failed.ensures _ c.hear.ensures true w.if-failed.true) _ w.copy_to-length.ensures.count _ w.copy_to-length.ensures.buffer _ _ w.simplify-moved.ensures _ w.hear-then-failed.ensures)
   | else-failed+else-verdicts-eq1 w ↦
       rw (w.length-is, w.tree-is, w.buffer-is, w.witness-is, w.moved-is)
-      (passed_later (loop_judged c.loop-verdicts.invariant c.loop-verdicts-test.true _ c.fails-failed.ensures _ c.hear.ensures false w.if-failed.false) w.if-verdicts-eq1.false _ _ w.complicate-moved.ensures _ w.hear-else-verdicts-eq1.ensures)
+      (passed_later c.loop-verdicts.invariant (loop_judged c.loop-verdicts.invariant c.loop-verdicts-test.true _ c.fails-failed.ensures _ c.hear.ensures false w.if-failed.false) w.if-verdicts-eq1.false _ _ w.complicate-moved.ensures _ w.hear-else-verdicts-eq1.ensures)
 ]
 
 pub returns-then-not-moved : goal.returns-then-not-moved
