@@ -7,7 +7,7 @@ use Rattle.meaning.specs.declared.reduction.End.{End}
 use Rattle.meaning.specs.declared.reduction.End.TheVariants.{Passes, Ended, Spent}
 use Rattle.meaning.specs.declared.reduction.Reduced.{Reduced}
 use Rattle.meaning.specs.Trees.{Stepped, Steps}
-use Rattle.meaning.specs.Reductions.{Happening, still, step, Reduction, over_at, preceded, by_step, judged, reduction, copied, Done, done_after}
+use Rattle.meaning.specs.Reductions.{Happening, still, step, Reduction, over_at, preceded, judged, reduction, copied, Done, done_after}
 use Rattle.meaning.specs.Reductions.Happening.{simplify, complicate, verdict}
 use Rattle.reduction.specs.Trials.{heard}
 
@@ -74,14 +74,6 @@ answered r s b w e = record { outcome = ap (λ (c : Course _ _ _). c.done) e; to
 pub loop_first : {S I W : Type 0} (t : Steps S I) (hears : W → Happening I → List I → W) (fails : List I → Bool) (budget : ℕ) (s : S) (b : List I) (w : W) → Looping t hears fails (full t hears fails budget s b w) budget 1 0 s b w
 loop_first t hears fails budget s b w = record { so_far = []; made = 0; rest = budget; next = refl; count = omega arith; long = omega arith; same = refl }
 
-module _ {S I W : Type 0} {t : Steps S I} {hears : W → Happening I → List I → W} {fails : List I → Bool} {whole : Course S I W} {budget number len : ℕ} {s : S} {b : List I} {w : W} where
-  pub loop_spent : Looping t hears fails whole budget number len s b w → budget < number → Answered whole (record { end = Spent; verdicts = budget; length = len }) s b w
-  loop_spent l h = answered _ s b w (here l.rest l.count l.same)
-    where
-      here : (n : ℕ) → n + l.made ≡ budget → course t hears l.made (reduction t fails n (eqb l.made 0) l.so_far s) b w ≡ whole → ends Spent budget len s b w ≡ whole
-      here zero k e = same_course Spent _ _ _ _ s b w (omega (arith, k)) l.long ∙ e
-      here (suc n) k e = let m = l.next in absurd (omega (arith, k, h, m))
-
 module _ {S I W : Type 0} {t : Steps S I} {hears : W → Happening I → List I → W} {fails : List I → Bool} {whole : Course S I W} {budget number len : ℕ} {s : S} {b : List I} {w : W} (l : Looping t hears fails whole budget number len s b w) where
   -- what follows that verdict
   abbrev following : (rest : ℕ) (first failed : Bool) → Reduction S I
@@ -104,12 +96,7 @@ module _ {S I W : Type 0} {t : Steps S I} {hears : W → Happening I → List I 
           record {
             rest = n;
             count = omega (arith, k, m);
-            same =
-                ap (λ (x : ℕ). course t hears x (after f) (cond f (over (t.candidate s) b) b) w') m
-                ∙ ap (λ (w : W). course t hears (l.made + 1) (after f) (cond f (over (t.candidate s) b) b) w) q
-                ∙ ap (λ (f : Bool). course t hears (l.made + 1) (after f) (cond f (over (t.candidate s) b) b) (hears w (verdict f) (t.candidate s))) e
-                ∙ after_verdict t hears l.made (fails (t.candidate s)) s (after (fails (t.candidate s))) b w
-                ∙ p;
+            same = rw (m, q, e) (after_verdict t hears l.made (fails (t.candidate s)) s (after (fails (t.candidate s))) b w ∙ p);
           }
 
   -- after a fail the candidate is the list so far, and a step is made from it
@@ -124,12 +111,7 @@ module _ {S I W : Type 0} {t : Steps S I} {hears : W → Happening I → List I 
         some = λ z. omega (arith, z, m);
         count = j.count;
         long = e ∙ ap (λ (m : ℕ). min (length (t.candidate s)) m) (sym (ap length q ∙ length_over (t.candidate s) b));
-        same =
-            ap (λ (x : List I). course t hears number (after made) x w') q
-            ∙ ap (λ (x : W). course t hears number (after made) (over (t.candidate s) b) x) told
-            ∙ after_simplify t hears number s made (after made) (over (t.candidate s) b) w
-            ∙ ap (λ (st : Stepped S). course t hears number (preceded (step simplify s st) (after st)) (over (t.candidate s) b) w) p
-            ∙ j.same;
+        same = rw (q, told) (after_simplify t hears number s made (after made) (over (t.candidate s) b) w ∙ ap (λ (st : Stepped S). course t hears number (preceded (step simplify s st) (after st)) (over (t.candidate s) b) w) p ∙ j.same);
       }
 
   -- after a pass it matters whether it is the first
@@ -151,16 +133,11 @@ module _ {S I W : Type 0} {t : Steps S I} {hears : W → Happening I → List I 
         some = λ z. omega (arith, z, m);
         count = j.count;
         long = l.long;
-        same =
-            ap (λ (x : W). course t hears number (after made) b x) told
-            ∙ after_complicate t hears number s made (after made) b w
-            ∙ ap (λ (st : Stepped S). course t hears number (preceded (step complicate s st) (after st)) b w) p
-            ∙ passed j false (ne_eqb l.made 0 (λ z. later (omega (arith, z, m))));
+        same = rw told (after_complicate t hears number s made (after made) b w ∙ ap (λ (st : Stepped S). course t hears number (preceded (step complicate s st) (after st)) b w) p ∙ passed j false (ne_eqb l.made 0 (λ z. later (omega (arith, z, m)))));
       }
 
 module _ {S I W : Type 0} {t : Steps S I} {hears : W → Happening I → List I → W} {fails : List I → Bool} {whole : Course S I W} {budget number len : ℕ} {s : S} {b : List I} {w : W} where
   -- no step was left, or the next verdict follows
-
   pub step_ended : {moved : Bool} → Stepping t hears fails whole budget number len moved s b w → moved ≡ false → Answered whole (record { end = Ended; verdicts = number; length = len }) s b w
   step_ended p e = answered _ s b w (same_course Ended _ _ _ _ s b w (omega arith) p.long ∙ ap (λ (moved : Bool). course t hears number (cond moved (reduction t fails p.rest false p.so_far s) (over_at Ended p.so_far s)) b w) (sym e) ∙ p.same)
 
@@ -177,3 +154,11 @@ module _ {S I W : Type 0} {t : Steps S I} {hears : W → Happening I → List I 
         ∙ ap (λ (moved : Bool). course t hears number (cond moved (reduction t fails p.rest false p.so_far s) (over_at Ended p.so_far s)) b w) (sym e)
         ∙ p.same;
   }
+
+  -- no verdict was left
+  pub loop_spent : Looping t hears fails whole budget number len s b w → budget < number → Answered whole (record { end = Spent; verdicts = budget; length = len }) s b w
+  loop_spent l h = answered _ s b w (here l.rest l.count l.same)
+    where
+      here : (n : ℕ) → n + l.made ≡ budget → course t hears l.made (reduction t fails n (eqb l.made 0) l.so_far s) b w ≡ whole → ends Spent budget len s b w ≡ whole
+      here zero k e = same_course Spent _ _ _ _ s b w (omega (arith, k)) l.long ∙ e
+      here (suc n) k e = let m = l.next in absurd (omega (arith, k, h, m))
