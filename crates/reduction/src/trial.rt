@@ -10,8 +10,8 @@ use draws::test_runner::TestRunner;
 use meaning::reduction::Notice;
 use meaning::traits::{Strategy, ValueTree, Verdict, Witness};
 
-// A call that a script asks for: a step, a reading, or a reduction by a verdict with a budget. It is data, and no table of
-// closures: the history of a trial is read from it.
+// A call that a script asks for: a step, a reading, or a reduction by a verdict with a budget.
+// It is data, and no table of closures, since the history of a trial is read from it.
 #[derive(Clone, Copy, Debug, PartialEq, Eq)]
 pub enum Call<V> {
     Simplify,
@@ -20,8 +20,8 @@ pub enum Call<V> {
     Reduce(V, u32),
 }
 
-// Makes one call. The tree, the buffer and the witness stay three parameters: a struct of the three borrows would be no plainer,
-// since each of its methods would have to promise besides that each borrow is still the same one.
+// Makes one call.
+// The three borrows stay parameters: each method of a struct of them would have to promise besides that they stay the same ones.
 fn play<T: ValueTree, V: Verdict<T::Item>, W: Witness<T::Item>>(
     tree: &mut T,
     call: &Call<V>,
