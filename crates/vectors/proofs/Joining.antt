@@ -1,52 +1,39 @@
--- The members' candidates, joined one element at a time: counting the items, finding one, copying them all.
--- A loop's invariant says that what is left from element i on, with what was done, makes the whole.
+-- The members' candidates, joined one member at a time: counting the items, finding one, copying them all.
+-- A loop's invariant says that what the members left show, with what was done, makes the whole.
 
-use Rattle.std.proofs.Common.{◌≡◌, ℕ, zero, suc, ◌+◌, ◌-◌, ◌^◌, ◌<◌, ◌≤◌, min, Bool, true, false, List, [], ◌∷◌, ◌++◌, length, get_or, take, drop, Some, None, sym, refl, ap, ◌∙◌, append_assoc, append-nil, le_refl, add-one, arith, length-append, length-drop, take-append-drop, drop_of_length-le, length-take-le, drop-cons}
+use Rattle.std.proofs.Common.{◌≡◌, ℕ, zero, suc, ◌+◌, ◌-◌, ◌^◌, ◌<◌, ◌≤◌, min, Bool, List, [], ◌∷◌, ◌++◌, length, take, drop, Some, None, sym, refl, ap, ◌∙◌, append_assoc, append-nil, le_refl, arith, length-append, length-drop, take-append-drop, drop_of_length-le, length-take-le}
 use borrow.Rule.Slice.PartMut.{put_mid}
+use Rattle.std.specs.List.{flat_map}
 use Rattle.std.proofs.lemmas.Slice.{between_to_end}
 use Rattle.buffers.specs.Over.{over}
 use Rattle.buffers.proofs.Overs.{length_over, over_append_within}
 use Rattle.meaning.specs.Readings.{counted, item_at}
 use Rattle.meaning.specs.Vectors.{joined}
-
--- what is left to join from element i on
-abbrev pub joined_from : {I : Type 0} → (ℕ → List I) → List Bool → ℕ → List I
-joined_from f inc i = joined f i (drop i inc)
-
-module _ {I : Type 0} (f : ℕ → List I) (inc : List Bool) (i : ℕ) where
-  pub joined_skip : i < length inc → get_or inc i false ≡ false → joined_from f inc i ≡ joined_from f inc (i + 1)
-  joined_skip h e = rw (add-one i) (ap (λ (bs : List Bool). joined f i bs) (drop-cons inc i false h) ∙ ap (λ (b : Bool). joined f i (b ∷ drop (suc i) inc)) e)
-
-  pub joined_here : i < length inc → get_or inc i false ≡ true → joined_from f inc i ≡ f i ++ joined_from f inc (i + 1)
-  joined_here h e = rw (add-one i) (ap (λ (bs : List Bool). joined f i bs) (drop-cons inc i false h) ∙ ap (λ (b : Bool). joined f i (b ∷ drop (suc i) inc)) e)
-
-  pub joined_end : length inc ≤ i → joined_from f inc i ≡ []
-  joined_end h = ap (λ (bs : List Bool). joined f i bs) (drop_of_length-le inc h)
+use Rattle.vectors.specs.Numbers.{numbers}
+use Rattle.vectors.proofs.Members.{joined_numbers}
 
 -- counting
 
-pub record Counting {I : Type 0} (f : ℕ → List I) (inc : List Bool) (i n : ℕ) : Type 0 where
+pub record Counting {I : Type 0} (f : ℕ → List I) (inc : List Bool) (left : List ℕ) (n : ℕ) : Type 0 where
   pub small : n < 2 ^ 64
-  pub same : counted (n + length (joined_from f inc i)) ≡ counted (length (joined f 0 inc))
+  pub same : counted (n + length (flat_map f left)) ≡ counted (length (joined f 0 inc))
 
-pub count_first : {I : Type 0} (f : ℕ → List I) (inc : List Bool) → Counting f inc 0 0
-count_first f inc = record { small = omega arith; same = omega arith }
+pub count_first : {I : Type 0} {f : ℕ → List I} {inc : List Bool} {left : List ℕ} → left ≡ numbers 0 inc → Counting f inc left 0
+count_first {f = f} {inc = inc} e = let j = ap length (joined_numbers f 0 inc) in rw e (record { small = omega arith; same = omega (arith, j) })
 
-pub count_skip : {I : Type 0} {f : ℕ → List I} {inc : List Bool} {i n : ℕ} → Counting f inc i n → i < length inc → get_or inc i false ≡ false → Counting f inc (i + 1) n
-count_skip {f = f} {inc = inc} {i = i} {n = n} c h e = record { small = c.small; same = ap (λ (xs : List _). counted (n + length xs)) (sym (joined_skip f inc i h e)) ∙ c.same }
+module _ {I : Type 0} {f : ℕ → List I} {inc : List Bool} {left : List ℕ} {n : ℕ} (c : Counting f inc left n) where
+  pub count_here : {i : ℕ} {rest : List ℕ} → left ≡ i ∷ rest → (k : ℕ) → k ≡ min (n + counted (length (f i))) (2 ^ 64 - 1) → Counting f inc rest k
+  count_here {i = i} {rest = rest} e k p =
+      let q = ap (λ (ns : List ℕ). length (flat_map f ns)) e ∙ length-append (f i) (flat_map f rest) in
+      let s = c.same in
+      record { small = omega (arith, p); same = omega (arith, q, s, p) }
 
-pub count_here : {I : Type 0} {f : ℕ → List I} {inc : List Bool} {i n : ℕ} → Counting f inc i n → i < length inc → get_or inc i false ≡ true → (k : ℕ) → k ≡ min (n + counted (length (f i))) (2 ^ 64 - 1) → Counting f inc (i + 1) k
-count_here {f = f} {inc = inc} {i = i} {n = n} c h e k p =
-    let q = ap length (joined_here f inc i h e) ∙ length-append (f i) (joined_from f inc (i + 1)) in
-    let s = c.same in
-    record { small = omega (arith, p); same = omega (arith, q, s, p) }
-
-pub count_end : {I : Type 0} {f : ℕ → List I} {inc : List Bool} {i n : ℕ} → Counting f inc i n → length inc ≤ i → n ≡ counted (length (joined f 0 inc))
-count_end {f = f} {inc = inc} {i = i} {n = n} c h =
-    let q = ap length (joined_end f inc i h) in
-    let s = c.same in
-    let l = c.small in
-    omega (arith, q, s, l)
+  pub count_end : left ≡ [] → n ≡ counted (length (joined f 0 inc))
+  count_end e =
+      let q = ap (λ (ns : List ℕ). length (flat_map f ns)) e in
+      let s = c.same in
+      let l = c.small in
+      omega (arith, q, s, l)
 
 -- finding one item
 
@@ -63,37 +50,35 @@ item_right (y ∷ xs) ys (suc k) e =
     let l = p.0 in
     (omega (arith, l), p.1 ∙ ap (λ (j : ℕ). item_at ys j) (let z : k - length xs ≡ suc k - suc (length xs) = omega arith in z))
 
-pub record Seeking {I : Type 0} (f : ℕ → List I) (inc : List Bool) (k i rest : ℕ) : Type 0 where
-  pub small : rest < 2 ^ 64
-  pub same : item_at (joined_from f inc i) rest ≡ item_at (joined f 0 inc) k
+pub record Seeking {I : Type 0} (f : ℕ → List I) (inc : List Bool) (k : ℕ) (left : List ℕ) (r : ℕ) : Type 0 where
+  pub small : r < 2 ^ 64
+  pub same : item_at (flat_map f left) r ≡ item_at (joined f 0 inc) k
 
-pub seek_first : {I : Type 0} (f : ℕ → List I) (inc : List Bool) (k : ℕ) → k < 2 ^ 64 → Seeking f inc k 0 k
-seek_first f inc k h = record { small = h; same = refl }
+pub seek_first : {I : Type 0} {f : ℕ → List I} {inc : List Bool} {k : ℕ} {left : List ℕ} → k < 2 ^ 64 → left ≡ numbers 0 inc → Seeking f inc k left k
+seek_first {f = f} {inc = inc} {k = k} h e = rw e (record { small = h; same = ap (λ (xs : List _). item_at xs k) (sym (joined_numbers f 0 inc)) })
 
-pub seek_skip : {I : Type 0} {f : ℕ → List I} {inc : List Bool} {k i r : ℕ} → Seeking f inc k i r → i < length inc → get_or inc i false ≡ false → Seeking f inc k (i + 1) r
-seek_skip {f = f} {inc = inc} {i = i} {r = r} s h e = record { small = s.small; same = ap (λ (xs : List _). item_at xs r) (sym (joined_skip f inc i h e)) ∙ s.same }
-
-pub seek_found : {I : Type 0} {f : ℕ → List I} {inc : List Bool} {k i r : ℕ} → Seeking f inc k i r → i < length inc → get_or inc i false ≡ true → (x : I) → Some x ≡ item_at (f i) r → Some x ≡ item_at (joined f 0 inc) k
-seek_found {f = f} {inc = inc} {i = i} {r = r} s h e x p = item_left (f i) (joined_from f inc (i + 1)) r x p ∙ ap (λ (xs : List _). item_at xs r) (sym (joined_here f inc i h e)) ∙ s.same
-
--- where the element has no such item, its length is at most r, and so is what it counts
-pub record Passed {I : Type 0} (f : ℕ → List I) (inc : List Bool) (k i r n : ℕ) : Type 0 where
+-- where the member has no such item, its length is at most r, and so is what it counts
+pub record Passed {I : Type 0} (f : ℕ → List I) (inc : List Bool) (k : ℕ) (rest : List ℕ) (r n : ℕ) : Type 0 where
   pub enough : n ≤ r
-  pub next : Seeking f inc k (i + 1) (r - n)
+  pub next : Seeking f inc k rest (r - n)
 
-pub seek_on : {I : Type 0} {f : ℕ → List I} {inc : List Bool} {k i r : ℕ} → Seeking f inc k i r → i < length inc → get_or inc i false ≡ true → None ≡ item_at (f i) r → (n : ℕ) → n ≡ counted (length (f i)) → Passed f inc k i r n
-seek_on {f = f} {inc = inc} {i = i} {r = r} s h e p n q =
-    let l = s.small in
-    let gone = item_right (f i) (joined_from f inc (i + 1)) r p in
-    let few = gone.0 in
-    let exact : n ≡ length (f i) = omega (arith, q, few, l) in
-    record {
-      enough = omega (arith, exact, few);
-      next = record { small = omega (arith, l); same = ap (λ (m : ℕ). item_at (joined_from f inc (i + 1)) (r - m)) exact ∙ sym gone.1 ∙ ap (λ (xs : List _). item_at xs r) (sym (joined_here f inc i h e)) ∙ s.same };
-    }
+module _ {I : Type 0} {f : ℕ → List I} {inc : List Bool} {k : ℕ} {left : List ℕ} {r : ℕ} (s : Seeking f inc k left r) where
+  pub seek_found : {i : ℕ} {rest : List ℕ} → left ≡ i ∷ rest → (x : I) → Some x ≡ item_at (f i) r → Some x ≡ item_at (joined f 0 inc) k
+  seek_found {i = i} {rest = rest} e x p = item_left (f i) (flat_map f rest) r x p ∙ ap (λ (ns : List ℕ). item_at (flat_map f ns) r) (sym e) ∙ s.same
 
-pub seek_end : {I : Type 0} {f : ℕ → List I} {inc : List Bool} {k i r : ℕ} → Seeking f inc k i r → length inc ≤ i → None ≡ item_at (joined f 0 inc) k
-seek_end {f = f} {inc = inc} {i = i} {r = r} s h = ap (λ (xs : List _). item_at xs r) (sym (joined_end f inc i h)) ∙ s.same
+  pub seek_on : {i : ℕ} {rest : List ℕ} → left ≡ i ∷ rest → None ≡ item_at (f i) r → (n : ℕ) → n ≡ counted (length (f i)) → Passed f inc k rest r n
+  seek_on {i = i} {rest = rest} e p n q =
+      let l = s.small in
+      let gone = item_right (f i) (flat_map f rest) r p in
+      let few = gone.0 in
+      let exact : n ≡ length (f i) = omega (arith, q, few, l) in
+      record {
+        enough = omega (arith, exact, few);
+        next = record { small = omega (arith, l); same = ap (λ (m : ℕ). item_at (flat_map f rest) (r - m)) exact ∙ sym gone.1 ∙ ap (λ (ns : List ℕ). item_at (flat_map f ns) r) (sym e) ∙ s.same };
+      }
+
+  pub seek_end : left ≡ [] → None ≡ item_at (joined f 0 inc) k
+  seek_end e = ap (λ (ns : List ℕ). item_at (flat_map f ns) r) (sym e) ∙ s.same
 
 -- copying them all
 
@@ -119,51 +104,48 @@ rest_written n b xs part e =
     ∙ ap (λ (zs : List _). take n b ++ zs) (append-nil part ∙ e ∙ ap (λ (zs : List _). over xs zs) (rest_lent n b))
 
 -- n items are copied, and the rest goes behind them; b0 is the buffer as it was
-pub record Copying {I : Type 0} (f : ℕ → List I) (inc : List Bool) (b0 : List I) (i n : ℕ) (b : List I) : Type 0 where
+pub record Copying {I : Type 0} (f : ℕ → List I) (inc : List Bool) (b0 : List I) (left : List ℕ) (n : ℕ) (b : List I) : Type 0 where
   pub within : n ≤ length b
   pub size : length b ≡ length b0
-  pub count : min (n + length (joined_from f inc i)) (length b0) ≡ min (length (joined f 0 inc)) (length b0)
-  pub same : take n b ++ over (joined_from f inc i) (drop n b) ≡ over (joined f 0 inc) b0
+  pub count : min (n + length (flat_map f left)) (length b0) ≡ min (length (joined f 0 inc)) (length b0)
+  pub same : take n b ++ over (flat_map f left) (drop n b) ≡ over (joined f 0 inc) b0
 
-pub copy_first : {I : Type 0} (f : ℕ → List I) (inc : List Bool) (b0 : List I) → Copying f inc b0 0 0 b0
-copy_first f inc b0 = record { within = omega arith; size = refl; count = omega arith; same = refl }
+pub copy_first : {I : Type 0} {f : ℕ → List I} {inc : List Bool} {b0 : List I} {left : List ℕ} → left ≡ numbers 0 inc → Copying f inc b0 left 0 b0
+copy_first {f = f} {inc = inc} {b0 = b0} e = let j = ap length (joined_numbers f 0 inc) in rw e (record {
+  within = omega arith;
+  size = refl;
+  count = omega (arith, j);
+  same = ap (λ (xs : List _). over xs b0) (sym (joined_numbers f 0 inc));
+})
 
-module _ {I : Type 0} {f : ℕ → List I} {inc : List Bool} {b0 : List I} {i n : ℕ} {b : List I} (c : Copying f inc b0 i n b) where
-  pub copy_skip : i < length inc → get_or inc i false ≡ false → Copying f inc b0 (i + 1) n b
-  copy_skip h e = let q = joined_skip f inc i h e in record {
-    within = c.within;
-    size = c.size;
-    count = ap (λ (xs : List I). min (n + length xs) (length b0)) (sym q) ∙ c.count;
-    same = ap (λ (xs : List I). take n b ++ over xs (drop n b)) (sym q) ∙ c.same;
-  }
-
-  -- the element's items went behind the n: m of them, into the rest of the buffer
-  pub copy_here : i < length inc → get_or inc i false ≡ true → (m : ℕ) → m ≡ min (length (f i)) (length (drop n b)) → (b' : List I) → b' ≡ take n b ++ over (f i) (drop n b) → Copying f inc b0 (i + 1) (n + m) b'
-  copy_here h e m p b' q =
+module _ {I : Type 0} {f : ℕ → List I} {inc : List Bool} {b0 : List I} {left : List ℕ} {n : ℕ} {b : List I} (c : Copying f inc b0 left n b) where
+  -- the member's items went behind the n: m of them, into the rest of the buffer
+  pub copy_here : {i : ℕ} {rest : List ℕ} → left ≡ i ∷ rest → (m : ℕ) → m ≡ min (length (f i)) (length (drop n b)) → (b' : List I) → b' ≡ take n b ++ over (f i) (drop n b) → Copying f inc b0 rest (n + m) b'
+  copy_here {i = i} {rest = rest} e m p b' q =
       let front = length-take-le n b c.within in
       let part = over (f i) (drop n b) in
-      let rest = joined_from f inc (i + 1) in
-      let whole = joined_here f inc i h e in
+      let more = flat_map f rest in
+      let whole = ap (flat_map f) e in
       let lw = length_over (f i) (drop n b) in
       let ld = length-drop n b in
       let lb = ap length q ∙ length-append (take n b) part in
-      let lj = ap length whole ∙ length-append (f i) rest in
+      let lj = ap length whole ∙ length-append (f i) more in
       let cw = c.within in let cs = c.size in let cc' = c.count in
       record {
         within = omega (arith, front, lw, ld, lb, p, cw);
         size = omega (arith, front, lw, ld, lb, cs, cw);
         count = omega (arith, lj, cc', p, ld, cs, cw);
         same =
-            ap (λ (x : List I). take (n + m) x ++ over rest (drop (n + m) x)) q
-            ∙ ap (λ (x : List I). x ++ over rest (drop (n + m) (take n b ++ part))) (take_after (take n b) part n m front)
-            ∙ ap (λ (x : List I). (take n b ++ take m part) ++ over rest x) (drop_after (take n b) part n m front)
-            ∙ append_assoc (take n b) (take m part) (over rest (drop m part))
-            ∙ ap (λ (x : List I). take n b ++ x) (over_append_within (f i) rest (drop n b) m p)
+            ap (λ (x : List I). take (n + m) x ++ over more (drop (n + m) x)) q
+            ∙ ap (λ (x : List I). x ++ over more (drop (n + m) (take n b ++ part))) (take_after (take n b) part n m front)
+            ∙ ap (λ (x : List I). (take n b ++ take m part) ++ over more x) (drop_after (take n b) part n m front)
+            ∙ append_assoc (take n b) (take m part) (over more (drop m part))
+            ∙ ap (λ (x : List I). take n b ++ x) (over_append_within (f i) more (drop n b) m p)
             ∙ ap (λ (x : List I). take n b ++ over x (drop n b)) (sym whole)
             ∙ c.same;
       }
 
-  pub copy_end : length inc ≤ i → (n ≡ min (length (joined f 0 inc)) (length b0)) × (b ≡ over (joined f 0 inc) b0)
-  copy_end h = let z = joined_end f inc i h in
+  pub copy_end : left ≡ [] → (n ≡ min (length (joined f 0 inc)) (length b0)) × (b ≡ over (joined f 0 inc) b0)
+  copy_end e = let z = ap (flat_map f) e in
       let k = c.count in let w = c.within in let s = c.size in let l = ap length z in
       (omega (arith, k, w, s, l), sym (take-append-drop n b) ∙ ap (λ (xs : List I). take n b ++ over xs (drop n b)) (sym z) ∙ c.same)

@@ -1,28 +1,35 @@
--- The walk over the members, one element at a time.
+-- The walk over the members, one member at a time.
 
-use Rattle.std.proofs.Common.{◌≡◌, ℕ, suc, ◌+◌, ◌<◌, ◌≤◌, Bool, true, false, List, ◌∷◌, length, get_or, drop, sym, ap, ◌∙◌, add-one, drop_of_length-le, drop-cons}
+use Rattle.std.proofs.Common.{◌≡◌, ℕ, max, true, false, List, [], ◌∷◌, length, drop, sym, ap, ◌∙◌, refl, arith, length-drop}
 use Rattle.meaning.specs.Trees.{Stepped, Steps}
-use Rattle.meaning.specs.Vectors.{Walked, go_on, walk}
+use Rattle.meaning.specs.Places.{Place}
+use Rattle.meaning.specs.Vectors.{VecTree, Walked, walk, walked, go_on, vec_simplify, vec_steps}
+use Rattle.vectors.specs.Numbers.{numbers}
+use Rattle.vectors.proofs.Members.{walk_over, walk_numbers}
 
--- what the walk from element i on comes to
-pub record Walking {T I : Type 0} (table : ℕ → Steps T I) (inc : List Bool) (to : Walked T) (i : ℕ) (t : T) : Type 0 where
-  pub same : walk table (drop i inc) i t ≡ to
+-- the step of a vector in its place whose walk came to w
+abbrev pub step_to : {T : Type 0} → Place (VecTree T) → Walked T → Stepped (Place (VecTree T))
+step_to p w = record { answer = w.found; tree = record { grown = p.grown; tree = (walked p.tree w).tree } }
 
-module _ {T I : Type 0} {table : ℕ → Steps T I} {inc : List Bool} {to : Walked T} {i : ℕ} {t : T} (w : Walking table inc to i t) where
-  pub walk_end : length inc ≤ i → record { elements = t; place = i; found = false } ≡ to
-  walk_end h = ap (λ (bs : List Bool). walk table bs i t) (sym (drop_of_length-le inc h)) ∙ w.same
+-- what the walk over the members left comes to, with the elements as they now are, is the whole step
+pub record Walking {T I : Type 0} (table : ℕ → Steps T I) (p : Place (VecTree T)) (end : ℕ) (left : List ℕ) (t : T) : Type 0 where
+  pub same : step_to p (walk_over table left end t) ≡ (vec_steps table).simplify p
 
-  at_element : i < length inc → (b : Bool) → get_or inc i false ≡ b → walk table (b ∷ drop (suc i) inc) i t ≡ to
-  at_element h b e = sym (ap (λ (bs : List Bool). walk table bs i t) (drop-cons inc i false h) ∙ ap (λ (b : Bool). walk table (b ∷ drop (suc i) inc) i t) e) ∙ w.same
+pub walk_first : {T I : Type 0} {table : ℕ → Steps T I} {p : Place (VecTree T)} (i : ℕ) {left : List ℕ} → left ≡ numbers i (drop i p.tree.included) → p.grown ≡ true → vec_simplify table p.tree p.tree.shrink ≡ walked p.tree (walk table (drop i p.tree.included) i p.tree.elements) → Walking table p (max i (length p.tree.included)) left p.tree.elements
+walk_first {table = table} {p = p} i n grown e =
+    let l = length-drop i p.tree.included in
+    let w = walk_numbers table (drop i p.tree.included) i (max i (length p.tree.included)) p.tree.elements (omega (arith, l)) in
+    record { same = rw (n, grown, e, w) refl }
 
-  pub walk_skip : i < length inc → get_or inc i false ≡ false → Walking table inc to (i + 1) t
-  walk_skip h e = record { same = rw (add-one i) (at_element h false e) }
+module _ {T I : Type 0} {table : ℕ → Steps T I} {p : Place (VecTree T)} {end : ℕ} {left : List ℕ} {t : T} (w : Walking table p end left t) where
+  pub walk_end : left ≡ [] → step_to p (record { elements = t; place = end; found = false }) ≡ (vec_steps table).simplify p
+  walk_end e = ap (λ (ns : List ℕ). step_to p (walk_over table ns end t)) (sym e) ∙ w.same
 
-  stepped : i < length inc → get_or inc i false ≡ true → (s : Stepped T) → s ≡ (table i).simplify t → go_on i s (walk table (drop (suc i) inc) (suc i)) ≡ to
-  stepped h e s p = ap (λ (s : Stepped T). go_on i s (walk table (drop (suc i) inc) (suc i))) p ∙ at_element h true e
+  stepped : {i : ℕ} {rest : List ℕ} → left ≡ i ∷ rest → (s : Stepped T) → s ≡ (table i).simplify t → step_to p (go_on i s (walk_over table rest end)) ≡ (vec_steps table).simplify p
+  stepped {i = i} {rest = rest} e s q = ap (λ (s : Stepped T). step_to p (go_on i s (walk_over table rest end))) q ∙ ap (λ (ns : List ℕ). step_to p (walk_over table ns end t)) (sym e) ∙ w.same
 
-  pub walk_found : i < length inc → get_or inc i false ≡ true → (t' : T) → record { answer = true; tree = t' } ≡ (table i).simplify t → record { elements = t'; place = i; found = true } ≡ to
-  walk_found h e t' p = stepped h e (record { answer = true; tree = t' }) p
+  pub walk_found : {i : ℕ} {rest : List ℕ} → left ≡ i ∷ rest → (t' : T) → record { answer = true; tree = t' } ≡ (table i).simplify t → step_to p (record { elements = t'; place = i; found = true }) ≡ (vec_steps table).simplify p
+  walk_found e t' q = stepped e (record { answer = true; tree = t' }) q
 
-  pub walk_on : i < length inc → get_or inc i false ≡ true → (t' : T) → record { answer = false; tree = t' } ≡ (table i).simplify t → Walking table inc to (i + 1) t'
-  walk_on h e t' p = record { same = rw (add-one i) (stepped h e (record { answer = false; tree = t' }) p) }
+  pub walk_on : {i : ℕ} {rest : List ℕ} → left ≡ i ∷ rest → (t' : T) → record { answer = false; tree = t' } ≡ (table i).simplify t → Walking table p end rest t'
+  walk_on e t' q = record { same = stepped e (record { answer = false; tree = t' }) q }

@@ -1,11 +1,8 @@
-ghost use Rattle.std.specs.Prelude.{◌≡◌, ℕ, ◌*◌, ◌<◌, ◌≤◌, min, true, false, List, length, drop, Ok, Err, MatchResult};
-ghost use Rattle.draws.specs.Runners.{run};
+ghost use Rattle.std.specs.Prelude.{◌≡◌, ◌*◌, ◌≤◌, true, false, Ok, Err, MatchResult};
 ghost use Rattle.meaning.specs.Places.{Place};
-ghost use Rattle.buffers.specs.Over.{over};
-ghost use Rattle.meaning.specs.Readings.{counted, item_at};
-ghost use Rattle.meaning.specs.Vectors.{VecTree, vec_blank, joined, Walked, walk, vec_steps, grow_from, vec_making, vec_short, vec_stated, vec_growth};
+ghost use Rattle.meaning.specs.Vectors.{VecTree, vec_blank, vec_steps, vec_making, vec_short, vec_stated, vec_growth};
 ghost use Rattle.meaning.specs.Piles.Pile.{vec as vec_pile};
-ghost use Rattle.vectors.specs.Members.{bits_of, vec_state};
+ghost use Rattle.vectors.specs.Members.{vec_state};
 
 use crate::included::Included;
 use draws::faults::GrowFault;
@@ -25,6 +22,7 @@ pub struct VecValueTree<B> {
     shrink: Shrink,
     prev_shrink: Option<Shrink>,
     longest: usize,
+    // A flag and not an `Option` round the rest: a blank place keeps what it held, as `blank` promises.
     grown: bool,
 }
 
@@ -43,80 +41,6 @@ impl<B: Table> VecValueTree<B> {
             grown: false,
         }
     }
-}
-
-// How many items the members show together.
-fn len_in<B: Table>(elements: &B, included: &Included) -> usize
-    ensures { result ≡ counted (length (joined (λ i. (B.Table.rows i).candidate (B.Table.state elements.now)) 0 (bits_of included.now))) }
-{
-    let mut n: usize = 0;
-    for i in 0..included.len() {
-        if included.test(i) {
-            n = n.saturating_add(elements.len_at(i));
-        }
-    }
-    n
-}
-
-fn item_in<B: Table>(elements: &B, included: &Included, k: usize) -> Option<B::Item>
-    ensures { result ≡ item_at (joined (λ i. (B.Table.rows i).candidate (B.Table.state elements.now)) 0 (bits_of included.now)) k }
-{
-    let mut rest = k;
-    for i in 0..included.len() {
-        if included.test(i) {
-            if let Some(x) = elements.item_at(i, rest) {
-                return Some(x);
-            }
-            rest -= elements.len_at(i);
-        }
-    }
-    None
-}
-
-fn copy_in<B: Table>(elements: &B, included: &Included, buf: &mut [B::Item]) -> usize
-    ensures count { result ≡ min (length (joined (λ i. (B.Table.rows i).candidate (B.Table.state elements.now)) 0 (bits_of included.now))) (length buf.old) }
-    ensures buffer { buf.new ≡ over (joined (λ i. (B.Table.rows i).candidate (B.Table.state elements.now)) 0 (bits_of included.now)) buf.old }
-{
-    let mut n: usize = 0;
-    for i in 0..included.len() {
-        if included.test(i) {
-            n += elements.copy_at(i, &mut buf[n..]);
-        }
-    }
-    n
-}
-
-// Simplifies the members from number `from` on, until one answers true: where it stopped, and whether one did.
-fn walk_in<B: Table>(elements: &mut B, included: &Included, from: usize) -> (usize, bool)
-    ensures { record { elements = B.Table.state elements.new; place = result.0; found = result.1 } ≡ walk B.Table.rows (drop from (bits_of included.now)) from (B.Table.state elements.old) }
-{
-    let mut ix = from;
-    while ix < included.len() {
-        if included.test(ix) {
-            if elements.simplify_at(ix) {
-                return (ix, true);
-            }
-        }
-        ix += 1;
-    }
-    (ix, false)
-}
-
-// Grows the first `size` elements, in order.
-fn grow_in<G: TableStrategy, D: Source>(
-    strategy: &G,
-    runner: &mut TestRunner<D>,
-    elements: &mut G::Trees,
-    size: usize,
-) -> Result<(), GrowFault>
-    ensures { record { answer = result; runner = run D.Source.state runner.new; place = G.Trees.Table.state elements.new } ≡ grow_from (G.Trees.Table.grows strategy.now D.Source.State D.Source.words) size 0 (run D.Source.state runner.old) (G.Trees.Table.state elements.old) }
-{
-    for i in 0..size {
-        if let Err(fault) = strategy.grow_at(i, runner, elements) {
-            return Err(fault.in_element(i));
-        }
-    }
-    Ok(())
 }
 
 impl<B: Table> ValueTree for VecValueTree<B> {
@@ -147,27 +71,39 @@ impl<B: Table> ValueTree for VecValueTree<B> {
     }
 
     fn len(&self) -> usize {
-        if self.grown {
-            len_in(&self.elements, &self.included_elements)
-        } else {
-            0
+        if !self.grown {
+            return 0;
         }
+        let mut len: usize = 0;
+        for ix in self.included_elements.iter_from(0) {
+            len = len.saturating_add(self.elements.len_at(ix));
+        }
+        len
     }
 
     fn item(&self, i: usize) -> Option<B::Item> {
-        if self.grown {
-            item_in(&self.elements, &self.included_elements, i)
-        } else {
-            None
+        if !self.grown {
+            return None;
         }
+        let mut rest = i;
+        for ix in self.included_elements.iter_from(0) {
+            if let Some(item) = self.elements.item_at(ix, rest) {
+                return Some(item);
+            }
+            rest -= self.elements.len_at(ix);
+        }
+        None
     }
 
     fn copy_to(&self, buf: &mut [B::Item]) -> usize {
-        if self.grown {
-            copy_in(&self.elements, &self.included_elements, buf)
-        } else {
-            0
+        if !self.grown {
+            return 0;
         }
+        let mut copied: usize = 0;
+        for ix in self.included_elements.iter_from(0) {
+            copied += self.elements.copy_at(ix, &mut buf[copied..]);
+        }
+        copied
     }
 
     fn blank(&mut self) {
@@ -179,25 +115,26 @@ impl<B: Table> ValueTree for VecValueTree<B> {
             return false;
         }
         let from = match self.shrink {
-            Shrink::DeleteElement(ix) => {
+            Shrink::DeleteElement(ix)
                 if ix < self.included_elements.len()
-                    && self.included_elements.count() != self.min_size
-                {
-                    self.included_elements.clear(ix);
-                    self.prev_shrink = Some(self.shrink);
-                    self.shrink = Shrink::DeleteElement(ix + 1);
-                    return true;
-                }
-                0
+                    && self.included_elements.count() != self.min_size => {
+                self.included_elements.clear(ix);
+                self.prev_shrink = Some(self.shrink);
+                self.shrink = Shrink::DeleteElement(ix + 1);
+                return true;
             }
+            Shrink::DeleteElement(_) => 0,
             Shrink::ShrinkElement(ix) => ix,
         };
-        let (place, found) = walk_in(&mut self.elements, &self.included_elements, from);
-        self.shrink = Shrink::ShrinkElement(place);
-        if found {
-            self.prev_shrink = Some(self.shrink);
+        for ix in self.included_elements.iter_from(from) {
+            if self.elements.simplify_at(ix) {
+                self.shrink = Shrink::ShrinkElement(ix);
+                self.prev_shrink = Some(self.shrink);
+                return true;
+            }
         }
-        found
+        self.shrink = Shrink::ShrinkElement(from.max(self.included_elements.len()));
+        false
     }
 
     fn complicate(&mut self) -> bool {
@@ -279,7 +216,11 @@ impl<G: TableStrategy> Strategy for VecStrategy<G> {
         place.grown = false;
         let low = self.size.low();
         let size = runner.draw(low as u64, self.size.high() as u64)? as usize;
-        grow_in(&self.elements, runner, &mut place.elements, size)?;
+        for i in 0..size {
+            self.elements
+                .grow_at(i, runner, &mut place.elements)
+                .map_err(|fault| fault.in_element(i))?;
+        }
         place.included_elements = Included::saturated(size);
         place.min_size = low;
         place.shrink = Shrink::DeleteElement(0);

@@ -1,93 +1,109 @@
-ghost use Rattle.std.specs.Prelude.{◌≡◌, ◌≤◌, min, true, false, length, take, set as put, slice_index_or};
+ghost use Rattle.std.specs.Prelude.{◌≡◌, ◌≤◌, min, true, false, length, drop, set as put, slice_index_or};
+ghost use Rattle.std.specs.Iterator.{YieldsFirst, item_count};
 ghost use Rattle.meaning.specs.Vectors.{members, all_of};
-ghost use Rattle.vectors.specs.Members.{bits_of};
+ghost use Rattle.vectors.specs.Numbers.{numbers};
 
-// Which of the elements of a vector, of which it has up to 256, are members.
-#[derive(Clone, Copy)]
+use arrayvec::ArrayVec;
+use std::marker::Model;
+
+// Which of the elements of a vector, of which it has up to 256, are members: for each element, in their order, whether it is one.
+#[derive(Drop)]
 pub struct Included {
-    bits: [bool; 256],
-    len: usize,
+    bits: ArrayVec<bool, 256>,
+}
+
+impl Model for Included {
+    ghost use Rattle.std.specs.Prelude.{Bool, List};
+
+    ghost Value = { List Bool };
+
+    ghost view = { λ included. included.bits.items };
 }
 
 impl Included {
     // The first `len` elements, up to 256, all of them members.
     pub fn saturated(len: usize) -> Included
-        ensures { bits_of result ≡ all_of (min len 256) }
+        ensures { result ≡ all_of (min len 256) }
     {
-        Included {
-            bits: [true; 256],
-            len,
-        }
+        let mut bits = ArrayVec::from([true; 256]);
+        bits.truncate(len);
+        Included { bits }
     }
 
     // How many elements there are, members or not.
     pub fn len(&self) -> usize
-        ensures value { result ≡ length (bits_of self.now) }
+        ensures value { result ≡ length self.now }
         ensures bound { result ≤ 256 }
     {
-        shorter(&self.bits, self.len)
+        self.bits.len()
     }
 
     pub fn test(&self, i: usize) -> bool
-        ensures { result ≡ slice_index_or (bits_of self.now) i false }
+        ensures { result ≡ slice_index_or self.now i false }
     {
-        if i < self.len {
-            bit(&self.bits, i)
-        } else {
-            false
-        }
+        self.bits.get(i) == Some(&true)
     }
 
     pub fn clear(&mut self, i: usize)
-        ensures { bits_of self.new ≡ put (bits_of self.old) i false }
+        ensures { self.new ≡ put self.old i false }
     {
-        set_bit(&mut self.bits, i, false);
+        if let Some(bit) = self.bits.get_mut(i) {
+            *bit = false;
+        }
     }
 
     pub fn set(&mut self, i: usize)
-        ensures { bits_of self.new ≡ put (bits_of self.old) i true }
+        ensures { self.new ≡ put self.old i true }
     {
-        set_bit(&mut self.bits, i, true);
+        if let Some(bit) = self.bits.get_mut(i) {
+            *bit = true;
+        }
     }
 
     // How many are members.
     pub fn count(&self) -> usize
-        ensures { result ≡ members (bits_of self.now) }
+        ensures { result ≡ members self.now }
     {
-        count_true(&self.bits, self.len)
+        self.bits.iter().filter(|&&bit| bit).count()
     }
-}
 
-fn shorter(bits: &[bool], len: usize) -> usize
-    ensures value { result ≡ length (take len bits.now) }
-    ensures bound { result ≤ length bits.now }
-{
-    if len < bits.len() { len } else { bits.len() }
-}
-
-fn bit(bits: &[bool], i: usize) -> bool
-    ensures { result ≡ slice_index_or bits.now i false }
-{
-    if i < bits.len() { bits[i] } else { false }
-}
-
-fn set_bit(bits: &mut [bool], i: usize, b: bool)
-    ensures { bits.new ≡ put bits.old i b }
-{
-    if i < bits.len() {
-        bits[i] = b;
-    }
-}
-
-// How many of the first `len` are true.
-fn count_true(bits: &[bool], len: usize) -> usize
-    ensures { result ≡ members (take len bits.now) }
-{
-    let mut n: usize = 0;
-    for i in 0..shorter(bits, len) {
-        if bits[i] {
-            n += 1;
+    // The numbers of the members from number `next` on.
+    pub fn iter_from(&self, next: usize) -> Members<'_>
+        ensures { result ≡ numbers next (drop next self.now) }
+    {
+        Members {
+            included: self,
+            next,
         }
     }
-    n
+}
+
+// The numbers of members, in order, seen as the list of those that are left.
+#[derive(Drop)]
+pub struct Members<'a> {
+    included: &'a Included,
+    next: usize,
+}
+
+impl<'a> Model for Members<'a> {
+    ghost use Rattle.std.specs.Prelude.{ℕ, List, drop};
+    ghost use Rattle.vectors.specs.Numbers.{numbers};
+
+    ghost Value = { List ℕ };
+
+    ghost view = { λ left. numbers left.next (drop left.next left.included.now) };
+}
+
+impl<'a> Iterator for Members<'a> {
+    type Item = usize;
+
+    ghost next_gives = { YieldsFirst (λ left. left) };
+
+    ghost remaining = { item_count (λ left. left) };
+
+    fn next(&mut self) -> Option<usize> {
+        let number = (self.next..self.included.len()).find(|&i| self.included.test(i))?;
+        self.next = number + 1;
+        Some(number)
+    }
 }
