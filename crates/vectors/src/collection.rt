@@ -100,8 +100,8 @@ impl<B: Table> ValueTree for VecValueTree<B> {
             return 0;
         }
         let mut copied: usize = 0;
-        for ix in self.included_elements.iter_from(0) {
-            copied += self.elements.copy_at(ix, &mut buf[copied..]);
+        for member in self.included_elements.iter_from(0) {
+            copied += self.elements.copy_at(member, &mut buf[copied..]);
         }
         copied
     }
