@@ -1,10 +1,6 @@
 -- The laws of `over` and `over_from`. Those that join two writes hold with or without room for them.
-use mathlib.Core.Path.{◌≡◌, refl, sym, ap, ◌∙◌}
-use mathlib.Core.List.{List, [], ◌∷◌, ◌++◌}
-use Prim.Native.Nat.{ℕ, zero, suc, ◌+◌, ◌≤◌, min}
-use native.Mathlib.Nat.{zero-add, suc-add}
-use native.Mathlib.Omega.{arith}
-use lib.ListN.{length, take, drop, set, take-append-drop}
+use Rattle.std.proofs.Common.{◌≡◌, ℕ, zero, suc, ◌+◌, ◌≤◌, min, List, [], ◌∷◌, ◌++◌, length, take, drop, set, sym, refl, ap, ◌∙◌, zero-add, suc-add, arith, length-append, length-take, length-drop, take-append-drop}
+use Rattle.std.proofs.Math.Seq.{take-nil}
 use Rattle.buffers.specs.Over.{over, over_from}
 
 pub over_nil : {A : Type 0} (xs : List A) → over xs [] ≡ []
@@ -22,9 +18,7 @@ length_over (x ∷ xs) [] = refl
 length_over (x ∷ xs) (b ∷ bs) = ap suc (length_over xs bs)
 
 pub length_over_from : {A : Type 0} (at : ℕ) (xs bs : List A) → length (over_from at xs bs) ≡ length bs
-length_over_from zero xs bs = length_over xs bs
-length_over_from (suc at) xs [] = ap length (over_nil xs)
-length_over_from (suc at) xs (b ∷ bs) = ap suc (length_over_from at xs bs)
+length_over_from at xs bs = grind (arith, length-append, length-take, length-drop, length_over)
 
 -- nothing written, and one item written
 pub over_from_none : {A : Type 0} (at : ℕ) (bs : List A) → over_from at [] bs ≡ bs
@@ -43,13 +37,9 @@ over_fits (x ∷ xs) [] fits = absurd (omega (arith, fits))
 over_fits (x ∷ xs) (b ∷ bs) fits = ap (λ w. x ∷ w) (over_fits xs bs (omega (arith, fits)))
 
 -- the first items after a write are those of xs, as far as there is room
-pub take_none : {A : Type 0} (n : ℕ) → take {A = A} n [] ≡ []
-take_none zero = refl
-take_none (suc n) = refl
-
 pub take_over : {A : Type 0} (xs bs : List A) → take (min (length xs) (length bs)) (over xs bs) ≡ take (length bs) xs
-take_over [] bs = let e : min 0 (length bs) ≡ 0 = omega arith in rw e (sym (take_none (length bs)))
-take_over (x ∷ xs) [] = take_none (min (suc (length xs)) 0)
+take_over [] bs = let e : min 0 (length bs) ≡ 0 = omega arith in rw e (sym (take-nil (length bs)))
+take_over (x ∷ xs) [] = take-nil (min (suc (length xs)) 0)
 take_over (x ∷ xs) (b ∷ bs) =
     let e : min (suc (length xs)) (suc (length bs)) ≡ suc (min (length xs) (length bs)) = omega arith in
     rw e (ap (λ w. x ∷ w) (take_over xs bs))

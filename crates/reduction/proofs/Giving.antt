@@ -2,7 +2,8 @@
 
 use Rattle.std.proofs.Common.{◌≡◌, ℕ, min, Bool, true, List, [], length, take, sym, subst, arith}
 use Rattle.buffers.specs.Over.{over}
-use Rattle.buffers.proofs.Overs.{length_over, take_none, take_over}
+use Rattle.std.proofs.Math.Seq.{take-nil}
+use Rattle.buffers.proofs.Overs.{length_over, take_over}
 use Rattle.meaning.specs.Trees.{Steps}
 use Rattle.meaning.specs.Reductions.{Reduction, reduction, copied}
 use Rattle.reduction.proofs.Along.{Cases, along}
@@ -12,7 +13,7 @@ abbrev Begins : {I : Type 0} → List I → List I → ℕ → Type 0
 Begins b xs room = take (min (length xs) room) b ≡ take room xs
 
 begins_none : {I : Type 0} (b : List I) (room : ℕ) → Begins b [] room
-begins_none b room = let e : min 0 room ≡ 0 = omega arith in rw e (sym (take_none room))
+begins_none b room = let e : min 0 room ≡ 0 = omega arith in rw e (sym (take-nil room))
 
 module _ {S I : Type 0} (t : Steps S I) where
   -- after a reduction's own events
