@@ -45,5 +45,6 @@ pub mod FlattenSteps
 pub mod FlattenGrowth
 mod FlattenExamples
 mod ReductionExamples
+pub mod Reducing
 pub mod Promising
 pub mod Piling

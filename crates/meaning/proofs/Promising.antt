@@ -1,17 +1,16 @@
 -- The promise over whole runs, of every kind of tree that keeps its meaning.
 
-use Rattle.std.proofs.Common.{◌≡◌, ℕ, zero, suc, ◌+◌, ◌<◌, ◌≤◌, Bool, true, false, cond, eqb, ltb, List, [], ◌∷◌, ◌++◌, length, Some, None, Option, sym, refl, ap, ◌∙◌, subst, le_refl, arith, length-append}
-use borrow.Author.Tests.{eqb-false}
-use Rattle.std.proofs.lemmas.Bool.{ltb-false}
+use Rattle.std.proofs.Common.{◌≡◌, ℕ, zero, suc, ◌+◌, ◌<◌, ◌≤◌, Bool, true, false, cond, eqb, ltb, List, [], ◌∷◌, ◌++◌, length, Some, None, Option, sym, refl, ap, ◌∙◌, subst, le_refl, pos_of_ne-zero, arith, length-append}
+use Rattle.std.proofs.lemmas.Bool.{cond_both, ltb-false, eqb-false}
 use Rattle.meaning.specs.declared.reduction.End.{End}
-use Rattle.meaning.specs.declared.reduction.End.TheVariants.{Passes, Spent}
+use Rattle.meaning.specs.declared.reduction.End.TheVariants.{Passes, Ended, Spent}
 use Rattle.meaning.specs.declared.reduction.ReduceFault.{ReduceFault}
-use Rattle.meaning.specs.declared.reduction.ReduceFault.TheVariants.{TooShort, NoBudget, Blank}
 use Rattle.meaning.specs.Trees.{Steps, meant, Simplifies, Complicates, Keeps}
-use Rattle.meaning.specs.Reductions.{Report, Event, verdicts, still, step, Reduction, over_at, preceded, by_step, judged, reduction, refusal}
+use Rattle.meaning.specs.Reductions.{Happening, Event, is_verdict, verdicts, still, step, Reduction, over_at, preceded, reduction, refusal}
 use Rattle.meaning.specs.Reductions.Happening.{simplify, complicate, reading, verdict, refused, start, report}
-use Rattle.meaning.specs.Runs.{Call, report_of, reduced, history, since, trues, FalsesShow, OneWayBack, Throughout, Judged, last_failed, Leads, ComesTo, IsSpent, Reductions, Promised}
+use Rattle.meaning.specs.Runs.{Call, report_of, reduced, history, since, is_true, trues, FalseShows, FalsesShow, AfterTrue, OneWayBack, Throughout, Judged, last_failed, Leads, ComesTo, IsSpent, Reductions, Promised}
 use Rattle.meaning.specs.Runs.Call.{simplifying, complicating, looking, reducing}
+use Rattle.meaning.proofs.Reducing.{Cases, every_reduction}
 
 -- what is known of the events that follow a tree s
 record Good {S I : Type 0} (t : Steps S I) (sound : S → Type 0) (s : S) (h : List (Event S I)) : Type 0 where
@@ -45,21 +44,18 @@ module _ {S I : Type 0} (t : Steps S I) (sound : S → Type 0) where
     through = (o, g.through);
   }
 
-  good_reading : (s : S) (h : List (Event S I)) → sound s → Good t sound s h → Good t sound s (still reading s ∷ h)
-  good_reading s h o g = record { few = (let a = g.few in omega (arith, a)); falses = (tt, g.falses); comes = g.comes; one_way = (tt, g.one_way); through = (o, g.through) }
+  -- an event that is no step, at a tree that stays: it adds nothing, and shows what it should
+  abbrev Adds : Happening I → S → List (Event S I) → Type 0
+  Adds what s h = (since (still what s ∷ h) ≡ still what s ∷ since h) × (is_true what ≡ 0) × FalseShows what (t.candidate s) (t.home s) × AfterTrue t what s s h × ComesTo t (t.home s) (still what s ∷ h)
 
-  -- a verdict, a refusal, a start and a report change no tree
-  good_verdict : (s : S) (f : Bool) (h : List (Event S I)) → sound s → Good t sound s h → Good t sound s (still (verdict f) s ∷ h)
-  good_verdict s f h o g = record { few = (let a = g.few in omega (arith, a)); falses = (tt, g.falses); comes = tt; one_way = (tt, g.one_way); through = (o, g.through) }
-
-  good_refused : (s : S) (f : ReduceFault) (h : List (Event S I)) → sound s → Good t sound s h → Good t sound s (still (refused f) s ∷ h)
-  good_refused s f h o g = record { few = (let a = g.few in omega (arith, a)); falses = (tt, g.falses); comes = tt; one_way = (tt, g.one_way); through = (o, g.through) }
-
-  good_start : (s : S) (n : ℕ) (h : List (Event S I)) → sound s → Good t sound s h → Good t sound s (still (start n) s ∷ h)
-  good_start s n h o g = record { few = (let a = g.few in omega (arith, a)); falses = (tt, g.falses); comes = tt; one_way = (tt, g.one_way); through = (o, g.through) }
-
-  good_report : (s : S) (r : Report I) (h : List (Event S I)) → sound s → Good t sound s h → Good t sound s (still (report r) s ∷ h)
-  good_report s r h o g = record { few = (let a = g.few in omega (arith, a)); falses = (tt, g.falses); comes = tt; one_way = (tt, g.one_way); through = (o, g.through) }
+  good_still : (what : Happening I) (s : S) (h : List (Event S I)) → Adds what s h → sound s → Good t sound s h → Good t sound s (still what s ∷ h)
+  good_still what s h (goes_on, none, shows, one_way, comes) o g = record {
+    few = rw goes_on (let few = g.few in omega (arith, none, few));
+    falses = rw goes_on (shows, g.falses);
+    comes = comes;
+    one_way = (one_way, g.one_way);
+    through = (o, g.through);
+  }
 
 -- complicate until false leads home, in at most as many steps as steps back say
 
@@ -98,45 +94,18 @@ module _ {S I : Type 0} (t : Steps S I) (sound : S → Type 0) where
     counts = λ budget js h e k. k js (omega arith) e;
   }
 
-  -- after a fail: simplify, from the candidate c
-  law_down : (n : ℕ) (c : List I) (s s' : S) (b : Bool) (down : Reduction S I) → sound s' → Simplifies (meant t s) b (meant t s') → t.candidate s ≡ c → (t.home s' ≡ c → Law t sound n c s' down) → Law t sound n c s (by_step simplify s c (record { answer = b; tree = s' }) down)
-  law_down n c s s' true down o l e q =
-      let d = q (l ∙ e) in
-      let w = d.within in
+  -- an event that is no verdict, and what follows it
+  law_step : (n : ℕ) (c : List I) (e : Event S I) (r : Reduction S I) → is_verdict e.what ≡ 0 → ((h : List (Event S I)) → Good t sound e.after h → Good t sound e.before (e ∷ h)) →
+      ((budget : ℕ) (js : List (Judged I)) (h : List (Event S I)) → Reductions t budget js h → Reductions t budget js (e ∷ h)) → Law t sound n c e.after r → Law t sound n c e.before (preceded e r)
+  law_step n c e r none good counts law =
+      let w = law.within in
       record {
-        sound_left = d.sound_left;
-        within = omega (arith, w);
-        at_home = d.at_home;
-        goes = λ h g. good_simplify t sound s s' true (down.own ++ h) o l (d.goes h g);
-        counts = λ budget js h f k. d.counts budget js h f (λ js' len. k js' (omega (arith, len)));
+        sound_left = law.sound_left;
+        within = omega (arith, none, w);
+        at_home = law.at_home;
+        goes = λ h g. good (r.own ++ h) (law.goes h g);
+        counts = λ budget js h d k. counts budget js (r.own ++ h) (law.counts budget js h d (λ js' len. k js' (omega (arith, none, len))));
       }
-  law_down n c s s' false down o l e q = record {
-    sound_left = o;
-    within = omega arith;
-    at_home = λ spent. absurd spent;
-    goes = λ h g. good_simplify t sound s s' false h o l g;
-    counts = λ budget js h f k. k js (omega arith) f;
-  }
-
-  -- after a later pass: complicate, towards the result
-  law_up : (n : ℕ) (result : List I) (s s' : S) (b : Bool) (up : Reduction S I) → sound s' → Complicates (meant t s) b (meant t s') → t.home s ≡ result → (t.home s' ≡ result → Law t sound n result s' up) → Law t sound n result s (by_step complicate s result (record { answer = b; tree = s' }) up)
-  law_up n result s s' true up o l e q =
-      let d = q (l.0 ∙ e) in
-      let w = d.within in
-      record {
-        sound_left = d.sound_left;
-        within = omega (arith, w);
-        at_home = d.at_home;
-        goes = λ h g. good_complicate t sound s s' true (up.own ++ h) o l (d.goes h g);
-        counts = λ budget js h f k. d.counts budget js h f (λ js' len. k js' (omega (arith, len)));
-      }
-  law_up n result s s' false up o l e q = record {
-    sound_left = o;
-    within = omega arith;
-    at_home = λ spent. absurd spent;
-    goes = λ h g. good_complicate t sound s s' false h o l g;
-    counts = λ budget js h f k. k js (omega arith) f;
-  }
 
   -- a verdict, and what follows it
   law_verdict : (n : ℕ) (f : Bool) (so_far : List I) (s : S) (r : Reduction S I) → sound s → Law t sound n (cond f (t.candidate s) so_far) s r → Law t sound (suc n) so_far s (preceded (still (verdict f) s) r)
@@ -146,7 +115,7 @@ module _ {S I : Type 0} (t : Steps S I) (sound : S → Type 0) where
         sound_left = d.sound_left;
         within = omega (arith, w);
         at_home = d.at_home;
-        goes = λ h g. good_verdict t sound s f (r.own ++ h) o (d.goes h g);
+        goes = λ h g. good_still t sound (verdict f) s (r.own ++ h) (refl, refl, tt, tt, tt) o (d.goes h g);
         counts = λ budget js h e k.
             let j : Judged I = record { list = t.candidate s; failed = f } in
             let l = length-append js (j ∷ []) in
@@ -154,49 +123,53 @@ module _ {S I : Type 0} (t : Steps S I) (sound : S → Type 0) where
       }
 
 module _ {S I : Type 0} {t : Steps S I} {sound : S → Type 0} (k : Keeps t sound) (fails : List I → Bool) where
-  law_judged : (n : ℕ) (failed : Bool) (result : List I) (s : S) (down up : Reduction S I) → sound s → t.home s ≡ result →
-      (t.home (t.simplify s).tree ≡ t.candidate s → Law t sound n (t.candidate s) (t.simplify s).tree down) →
-      (t.home (t.complicate s).tree ≡ result → Law t sound n result (t.complicate s).tree up) →
-      Law t sound n (cond failed (t.candidate s) result) s (judged t failed false (t.candidate s) result s down up)
-  law_judged n true result s down up o e q p = law_down t sound n (t.candidate s) s (t.simplify s).tree (t.simplify s).answer down (k.simplify s o).0 (k.simplify s o).1 refl q
-  law_judged n false result s down up o e q p = law_up t sound n result s (t.complicate s).tree (t.complicate s).answer up (k.complicate s o).0 (k.complicate s o).1 e p
+  law_simplify : (n : ℕ) (c : List I) (s : S) (more : Reduction S I) → sound s → Law t sound n c (t.simplify s).tree more → Law t sound n c s (preceded (step simplify s (t.simplify s)) more)
+  law_simplify n c s more o = let r = t.simplify s in let kept = k.simplify s o in law_step t sound n c (step simplify s r) more refl (λ h g. good_simplify t sound s r.tree r.answer h kept.0 kept.1 g) (λ budget js h q. q)
 
-  law_judged_first : (n : ℕ) (failed : Bool) (s : S) (down up : Reduction S I) → sound s →
-      (t.home (t.simplify s).tree ≡ t.candidate s → Law t sound n (t.candidate s) (t.simplify s).tree down) →
-      Law t sound n (cond failed (t.candidate s) []) s (judged t failed true (t.candidate s) [] s down up)
-  law_judged_first n true s down up o q = law_down t sound n (t.candidate s) s (t.simplify s).tree (t.simplify s).answer down (k.simplify s o).0 (k.simplify s o).1 refl q
-  law_judged_first n false s down up o q = law_over t sound n Passes [] s o (λ spent. absurd spent)
+  law_complicate : (n : ℕ) (c : List I) (s : S) (more : Reduction S I) → sound s → Law t sound n c (t.complicate s).tree more → Law t sound n c s (preceded (step complicate s (t.complicate s)) more)
+  law_complicate n c s more o = let r = t.complicate s in let kept = k.complicate s o in law_step t sound n c (step complicate s r) more refl (λ h g. good_complicate t sound s r.tree r.answer h kept.0 kept.1 g) (λ budget js h q. q)
 
-  -- a reduction that has a failing list behind it, and a whole one
-  law_later : (n : ℕ) (result : List I) (s : S) → sound s → t.home s ≡ result → Law t sound n result s (reduction t fails n false result s)
-  law_later zero result s o e = law_over t sound zero Spent result s o (λ spent. e)
-  law_later (suc n) result s o e =
-      law_verdict t sound n (fails (t.candidate s)) result s _ o
-      (law_judged n (fails (t.candidate s)) result s _ _ o e
-      (λ f. law_later n (t.candidate s) (t.simplify s).tree (k.simplify s o).0 f)
-      (λ f. law_later n result (t.complicate s).tree (k.complicate s o).0 f))
+  law_ended : (n : ℕ) (c : List I) (s : S) → sound s → Law t sound n c s (over_at Ended c s)
+  law_ended n c s o = law_over t sound n Ended c s o (λ spent. absurd spent)
+
+  -- a reduction begins with a budget and no result, and goes on with a failing list behind it
+  abbrev Begun : Bool → ℕ → List I → S → Type 0
+  Begun true n result s = (result ≡ []) × (0 < n)
+  Begun false n result s = t.home s ≡ result
+
+  abbrev Lawful : ℕ → Bool → List I → S → Reduction S I → Type 0
+  Lawful n first result s r = sound s → Begun first n result s → Law t sound n result s r
+
+  spent_lawful : (first : Bool) (result : List I) (s : S) → Lawful zero first result s (over_at Spent result s)
+  spent_lawful true result s o begun = let l = begun.1 in absurd (omega (arith, l))
+  spent_lawful false result s o begun = law_over t sound zero Spent result s o (λ spent. begun)
+
+  lawful : Cases t Lawful
+  lawful = record {
+    spent = spent_lawful;
+    passes = λ n result s o begun. law_verdict t sound n false result s _ o (subst (λ (c : List I). Law t sound n c s (over_at Passes [] s)) (sym begun.0) (law_over t sound n Passes [] s o (λ spent. absurd spent)));
+    down = λ n first result s more goes law o begun.
+        let kept = k.simplify s o in
+        let home = subst (λ (b : Bool). Simplifies (meant t s) b (meant t (t.simplify s).tree)) goes kept.1 in
+        law_verdict t sound n true result s _ o (law_simplify n (t.candidate s) s more o (law kept.0 home));
+    down_ends = λ n first result s ends o begun. law_verdict t sound n true result s _ o (law_simplify n (t.candidate s) s _ o (law_ended n (t.candidate s) (t.simplify s).tree (k.simplify s o).0));
+    up = λ n result s more goes law o begun.
+        let kept = k.complicate s o in
+        let home = subst (λ (b : Bool). Complicates (meant t s) b (meant t (t.complicate s).tree)) goes kept.1 in
+        law_verdict t sound n false result s _ o (law_complicate n result s more o (law kept.0 (home.0 ∙ begun)));
+    up_ends = λ n result s ends o begun. law_verdict t sound n false result s _ o (law_complicate n result s _ o (law_ended n result (t.complicate s).tree (k.complicate s o).0));
+  }
 
   pub law_whole : (n : ℕ) (s : S) → sound s → 0 < n → Law t sound n [] s (reduction t fails n true [] s)
-  law_whole zero s o l = absurd (omega (arith, l))
-  law_whole (suc n) s o l =
-      law_verdict t sound n (fails (t.candidate s)) [] s _ o
-      (law_judged_first n (fails (t.candidate s)) s _ _ o
-      (λ f. law_later n (t.candidate s) (t.simplify s).tree (k.simplify s o).0 f))
+  law_whole n s o l = every_reduction t Lawful lawful fails n true [] s o (refl, l)
 
 -- an accepted reduction has room for the stated longest, and a budget
-accepted_by : (short zero? grown? : Bool) → cond short (Some TooShort) (cond zero? (Some NoBudget) (cond grown? None (Some Blank))) ≡ None → (short ≡ false) × (zero? ≡ false)
-accepted_by true z g e = let x : ◌≡◌ {A = ℕ} 0 1 = cc in absurd (omega arith)
-accepted_by false true g e = let x : ◌≡◌ {A = ℕ} 0 1 = cc in absurd (omega arith)
-accepted_by false false g e = (refl, refl)
-
 pub accepted : {S I : Type 0} (t : Steps S I) (budget room : ℕ) (s : S) → refusal t budget room s ≡ None → (t.longest s ≤ room) × (0 < budget)
-accepted t budget room s e =
-    let b = accepted_by (ltb room (t.longest s)) (eqb budget 0) (t.grown s) e in
-    (ltb-false room (t.longest s) b.0, positive budget (eqb-false budget 0 b.1))
-  where
-    positive : (n : ℕ) → (n ≡ 0 → ⊥) → 0 < n
-    positive zero z = absurd (z refl)
-    positive (suc n) z = omega arith
+accepted t budget room s = cond_both (ltb room (t.longest s)) _ _ (λ (f : Option ReduceFault). f ≡ None → (t.longest s ≤ room) × (0 < budget))
+    (λ short e. absurd (cc))
+    (λ fits. cond_both (eqb budget 0) _ _ (λ (f : Option ReduceFault). f ≡ None → (t.longest s ≤ room) × (0 < budget))
+    (λ none e. absurd (cc))
+    (λ some e. (ltb-false room (t.longest s) fits, pos_of_ne-zero (eqb-false budget 0 some))))
 
 -- whole histories
 
@@ -212,7 +185,7 @@ module _ {S I : Type 0} {t : Steps S I} {sound : S → Type 0} (k : Keeps t soun
       let rest = next r.left law.sound_left in
       let w = law.within in
       record {
-        good = good_start t sound s budget _ o (law.goes _ (good_report t sound r.left (report_of r) (h r.left) law.sound_left rest.good));
+        good = good_still t sound (start budget) s _ (refl, refl, tt, tt, tt) o (law.goes _ (good_still t sound (report (report_of r)) r.left (h r.left) (refl, refl, tt, tt, tt) law.sound_left rest.good));
         reports = λ b js. law.counts budget [] (still (report (report_of r)) r.left ∷ h r.left) refl (λ js' len gave. (
           record {
             counted = omega (arith, len);
@@ -226,7 +199,7 @@ module _ {S I : Type 0} {t : Steps S I} {sound : S → Type 0} (k : Keeps t soun
       }
 
   kept_refused : (f : ReduceFault) (budget : ℕ) (s : S) (r : Reduction S I) (h : S → List (Event S I)) → sound s → Kept t sound s (h s) → Kept t sound s (reduced budget s (Some f) r h)
-  kept_refused f budget s r h o next = record { good = good_refused t sound s f (h s) o next.good; reports = λ b js. next.reports b js }
+  kept_refused f budget s r h o next = record { good = good_still t sound (refused f) s (h s) (refl, refl, tt, tt, tt) o next.good; reports = λ b js. next.reports b js }
 
   kept_asked : (fails : List I → Bool) (budget room : ℕ) (s : S) (h : S → List (Event S I)) → sound s → ((s' : S) → sound s' → Kept t sound s' (h s')) → (f : Option ReduceFault) → refusal t budget room s ≡ f → Kept t sound s (reduced budget s f (reduction t fails budget true [] s) h)
   kept_asked fails budget room s h o next (Some f) e = kept_refused f budget s (reduction t fails budget true [] s) h o (next s o)
@@ -244,7 +217,7 @@ module _ {S I : Type 0} {t : Steps S I} {sound : S → Type 0} (k : Keeps t soun
       record { good = good_complicate t sound s (t.complicate s).tree (t.complicate s).answer _ l.0 l.1 next.good; reports = λ b js. next.reports b js }
   kept (looking ∷ calls) s o =
       let next = kept calls s o in
-      record { good = good_reading t sound s _ o next.good; reports = λ b js. next.reports b js }
+      record { good = good_still t sound reading s _ (refl, refl, tt, tt, next.good.comes) o next.good; reports = λ b js. next.reports b js }
   kept (reducing fails budget room ∷ calls) s o = kept_asked fails budget room s (history t calls) o (λ s' o'. kept calls s' o') (refusal t budget room s) refl
 
 throughout : {S I : Type 0} {sound shows : S → Type 0} → ((s : S) → sound s → shows s) → (h : List (Event S I)) → Throughout sound h → Throughout shows h
