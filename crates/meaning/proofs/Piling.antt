@@ -32,7 +32,7 @@ use Rattle.meaning.specs.Piles.{Pile, TablePile, OptionPile, ShowsGiven, VecShow
 use Rattle.meaning.specs.Piles.Pile.{leaf, fuse, no_shrink, filter, filter_map, vec, array, bit_sets, sampled_sets, range_subsets, union, flatten}
 use Rattle.meaning.specs.Piles.TablePile.{slice, end, pair}
 use Rattle.meaning.specs.Piles.OptionPile.{slice_options, no_options, pair_options}
-use Rattle.meaning.proofs.SliceLaws.{slice_total, slice_keeps, slice_roots}
+use Rattle.meaning.proofs.SliceLaws.{along_slot, slice_total, slice_keeps, slice_roots}
 use Rattle.meaning.proofs.VectorSteps.{vec_total, vec_keeps}
 use Rattle.meaning.proofs.VectorGrowth.{vec_roots}
 use Rattle.meaning.proofs.FuseLaws.{fuse_total, fuse_keeps, fuse_roots}
@@ -165,9 +165,7 @@ grown_tells P Q f p = by p.grown
     by false h = tt
 
 slot_tells : {S : Type 0} {P Q : S → Type 0} → ((s : S) → P s → Q s) → (i : ℕ) (xs : List S) → Slot P i xs → Slot Q i xs
-slot_tells f i [] h = h
-slot_tells f zero (x ∷ xs) h = f x h
-slot_tells f (suc i) (x ∷ xs) h = slot_tells f i xs h
+slot_tells {P = P} {Q = Q} f = along_slot P (Slot Q) (λ x xs. f x) (λ i x xs held. held)
 
 pair_tells : {S T : Type 0} {P Q : S → Type 0} {Ps Qs : ℕ → T → Type 0} → ((s : S) → P s → Q s) → ((i : ℕ) (t : T) → Ps i t → Qs i t) → (i : ℕ) (s : Pair S T) → pair_sound P Ps i s → pair_sound Q Qs i s
 pair_tells f fs zero s h = f s.first h

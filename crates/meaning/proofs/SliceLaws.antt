@@ -9,24 +9,26 @@ use Rattle.meaning.specs.Growths.{Grows, Growth, Rooted, Roots}
 use Rattle.meaning.specs.GrowthLaws.{accepted_is_no_fault}
 use Rattle.meaning.specs.Tables.{at, change_at, slice_table, grow_at, slice_growth, lacking, slice_short, slice_stated}
 use Rattle.meaning.specs.TableLaws.{Apart, TableTotal, TableKeeps, TableRoots, Slot}
+use Rattle.meaning.specs.SliceOptions.{lacking_by_number}
 use Rattle.meaning.proofs.Growing.{neither}
+
+-- what holds past the end and at the first slot, and is handed on by one slot more, holds at every slot
+pub along : {S : Type 0} (Holds : ℕ → List S → Type 0) → ((i : ℕ) → Holds i []) → ((x : S) (xs : List S) → Holds zero (x ∷ xs)) → ((i : ℕ) (x : S) (xs : List S) → Holds i xs → Holds (suc i) (x ∷ xs)) → (i : ℕ) (xs : List S) → Holds i xs
+along Holds past first further i [] = past i
+along Holds past first further zero (x ∷ xs) = first x xs
+along Holds past first further (suc i) (x ∷ xs) = further i x xs (along Holds past first further i xs)
+
+-- the same where something is known of the slot
+pub along_slot : {S : Type 0} (P : S → Type 0) (Holds : ℕ → List S → Type 0) → ((x : S) (xs : List S) → P x → Holds zero (x ∷ xs)) → ((i : ℕ) (x : S) (xs : List S) → Holds i xs → Holds (suc i) (x ∷ xs)) → (i : ℕ) (xs : List S) → Slot P i xs → Holds i xs
+along_slot P Holds first further = along (λ i xs. Slot P i xs → Holds i xs) (λ i here. absurd here) first (λ i x xs held here. further i x xs (held here))
 
 -- every tree is total
 module _ {S I : Type 0} {t : Steps S I} (total : Total t) where
-  slice_ends : (i : ℕ) (xs : List S) → Ends (slice_table t i) xs
-  slice_ends i [] = le_refl 0
-  slice_ends zero (x ∷ xs) = total.ends x
-  slice_ends (suc i) (x ∷ xs) = slice_ends i xs
-
   slice_grown : (change : S → S) → ((x : S) → t.grown (change x) ≡ t.grown x) → (i : ℕ) (xs : List S) → (slice_table t i).grown (change_at change xs i) ≡ (slice_table t i).grown xs
-  slice_grown change same i [] = refl
-  slice_grown change same zero (x ∷ xs) = same x
-  slice_grown change same (suc i) (x ∷ xs) = slice_grown change same i xs
+  slice_grown change same = along (λ i xs. (slice_table t i).grown (change_at change xs i) ≡ (slice_table t i).grown xs) (λ i. refl) (λ x xs. same x) (λ i x xs held. held)
 
   at_blank : {A : Type 0} (f : S → A) (d : A) → ((x : S) → t.grown x ≡ false → f x ≡ d) → (i : ℕ) (xs : List S) → (slice_table t i).grown xs ≡ false → at f d xs i ≡ d
-  at_blank f d blank i [] e = refl
-  at_blank f d blank zero (x ∷ xs) e = blank x e
-  at_blank f d blank (suc i) (x ∷ xs) e = at_blank f d blank i xs e
+  at_blank f d blank = along (λ i xs. (slice_table t i).grown xs ≡ false → at f d xs i ≡ d) (λ i e. refl) (λ x xs. blank x) (λ i x xs held. held)
 
   slice_blank : (i : ℕ) (xs : List S) → (slice_table t i).grown xs ≡ false → Blank (slice_table t i) xs
   slice_blank i xs e = record {
@@ -38,18 +40,13 @@ module _ {S I : Type 0} {t : Steps S I} (total : Total t) where
     no_complicate = at_blank (λ x. (t.complicate x).answer) false (λ x e. (total.blank x e).no_complicate) i xs e;
   }
 
-  slice_blanks : (i : ℕ) (xs : List S) → (slice_table t i).grown ((slice_table t i).blank xs) ≡ false
-  slice_blanks i [] = refl
-  slice_blanks zero (x ∷ xs) = total.blanks x
-  slice_blanks (suc i) (x ∷ xs) = slice_blanks i xs
-
   pub slice_total : TableTotal (slice_table t)
   slice_total i = record {
-    ends = slice_ends i;
+    ends = along (λ j. Ends (slice_table t j)) (λ j. le_refl 0) (λ x xs. total.ends x) (λ j x xs held. held) i;
     simplify_grown = slice_grown (λ x. (t.simplify x).tree) total.simplify_grown i;
     complicate_grown = slice_grown (λ x. (t.complicate x).tree) total.complicate_grown i;
     blank = slice_blank i;
-    blanks = slice_blanks i;
+    blanks = along (λ j xs. (slice_table t j).grown ((slice_table t j).blank xs) ≡ false) (λ j. refl) (λ x xs. total.blanks x) (λ j x xs held. held) i;
   }
 
 -- a change of one slot leaves every other apart
@@ -78,68 +75,64 @@ module _ {S : Type 0} (change : S → S) where
 
 -- every tree keeps its meaning
 module _ {S I : Type 0} {t : Steps S I} {sound : S → Type 0} (keeps : Keeps t sound) where
-  slice_fits : (i : ℕ) (xs : List S) → Slot sound i xs → length ((slice_table t i).candidate xs) ≤ (slice_table t i).longest xs
-  slice_fits i [] here = absurd here
-  slice_fits zero (x ∷ xs) here = keeps.fits x here
-  slice_fits (suc i) (x ∷ xs) here = slice_fits i xs here
-
-  slice_simplify : (i : ℕ) (xs : List S) → Slot sound i xs → SimplifyKept (slice_table t i) (Slot sound i) xs ((slice_table t i).simplify xs)
-  slice_simplify i [] here = absurd here
-  slice_simplify zero (x ∷ xs) here = keeps.simplify x here
-  slice_simplify (suc i) (x ∷ xs) here = slice_simplify i xs here
-
-  slice_complicate : (i : ℕ) (xs : List S) → Slot sound i xs → ComplicateKept (slice_table t i) (Slot sound i) xs ((slice_table t i).complicate xs)
-  slice_complicate i [] here = absurd here
-  slice_complicate zero (x ∷ xs) here = keeps.complicate x here
-  slice_complicate (suc i) (x ∷ xs) here = slice_complicate i xs here
-
   pub slice_keeps : TableKeeps (slice_table t) (Slot sound)
   slice_keeps = record {
-    each = λ i. record { fits = slice_fits i; simplify = slice_simplify i; complicate = slice_complicate i };
+    each = λ i. record {
+      fits = along_slot sound (λ j xs. length ((slice_table t j).candidate xs) ≤ (slice_table t j).longest xs) (λ x xs. keeps.fits x) (λ j x xs held. held) i;
+      simplify = along_slot sound (λ j xs. SimplifyKept (slice_table t j) (Slot sound j) xs ((slice_table t j).simplify xs)) (λ x xs. keeps.simplify x) (λ j x xs held. held) i;
+      complicate = along_slot sound (λ j xs. ComplicateKept (slice_table t j) (Slot sound j) xs ((slice_table t j).complicate xs)) (λ x xs. keeps.complicate x) (λ j x xs held. held) i;
+    };
     simplify_apart = slice_apart (λ x. (t.simplify x).tree) t sound;
     complicate_apart = slice_apart (λ x. (t.complicate x).tree) t sound;
   }
 
+-- whether one of the first n slots lacks, or has too few
+lacking_each : {S : Type 0} (short : S → Bool) (n : ℕ) (xs : List S) → lacking short n xs ≡ lacking_by_number (λ j. short) n xs
+lacking_each short zero xs = refl
+lacking_each short (suc n) [] = refl
+lacking_each short (suc n) (x ∷ xs) = ap (cond (short x) true) (lacking_each short n xs)
+
+-- where the first n slots are enough, each of them is there and is enough for its strategy
+pub slot_enough : {S : Type 0} (short : ℕ → S → Bool) (n i : ℕ) → i < n → (xs : List S) → lacking_by_number short n xs ≡ false → Slot (λ x. short i x ≡ false) i xs
+slot_enough short zero i below xs enough = absurd (omega (arith, below))
+slot_enough short (suc n) i below [] enough = absurd (true≢false enough)
+slot_enough short (suc n) zero below (x ∷ xs) enough = (neither (short 0 x) _ enough).0
+slot_enough short (suc n) (suc i) below (x ∷ xs) enough = slot_enough (λ j. short (suc j)) n i (omega (arith, below)) xs (neither (short 0 x) _ enough).1
+
+pub lacking_changed : {S : Type 0} (short : ℕ → S → Bool) (change : S → S) → ((j : ℕ) (x : S) → short j (change x) ≡ short j x) → (n i : ℕ) (xs : List S) → lacking_by_number short n (change_at change xs i) ≡ lacking_by_number short n xs
+lacking_changed short change same zero i xs = refl
+lacking_changed short change same (suc n) i [] = refl
+lacking_changed short change same (suc n) zero (x ∷ xs) = ap (λ (b : Bool). cond b true (lacking_by_number (λ j. short (suc j)) n xs)) (same 0 x)
+lacking_changed short change same (suc n) (suc i) (x ∷ xs) = ap (cond (short 0 x) true) (lacking_changed (λ j. short (suc j)) change (λ j. same (suc j)) n i xs)
+
 -- growing in one slot
 module _ {X S : Type 0} (g : Grows X S) where
   pub grow_at_place : (i : ℕ) (r : RunnerState X) (xs : List S) → (grow_at g i r xs).place ≡ change_at (λ x. (g r x).place) xs i
-  grow_at_place i r [] = refl
-  grow_at_place zero r (x ∷ xs) = refl
-  grow_at_place (suc i) r (x ∷ xs) = ap (λ (ys : List S). x ∷ ys) (grow_at_place i r xs)
+  grow_at_place i r = along (λ j xs. (grow_at g j r xs).place ≡ change_at (λ x. (g r x).place) xs j) (λ j. refl) (λ x xs. refl) (λ j x xs. ap (λ (ys : List S). x ∷ ys)) i
 
   pub grow_at_calm : ((r : RunnerState X) (x : S) → (g r x).runner.rejections ≤ r.rejections) → (i : ℕ) (r : RunnerState X) (xs : List S) → (grow_at g i r xs).runner.rejections ≤ r.rejections
-  grow_at_calm calm i r [] = le_refl r.rejections
-  grow_at_calm calm zero r (x ∷ xs) = calm r x
-  grow_at_calm calm (suc i) r (x ∷ xs) = grow_at_calm calm i r xs
+  grow_at_calm calm i r = along (λ j xs. (grow_at g j r xs).runner.rejections ≤ r.rejections) (λ j. le_refl r.rejections) (λ x xs. calm r x) (λ j x xs held. held) i
 
-  grow_at_lasting : (short : S → Bool) → ((r : RunnerState X) (x : S) → short (g r x).place ≡ short x) → (n i : ℕ) (r : RunnerState X) (xs : List S) → lacking short n (grow_at g i r xs).place ≡ lacking short n xs
-  grow_at_lasting short lasting zero i r xs = refl
-  grow_at_lasting short lasting (suc n) i r [] = refl
-  grow_at_lasting short lasting (suc n) zero r (x ∷ xs) = ap (λ (b : Bool). cond b true (lacking short n xs)) (lasting r x)
-  grow_at_lasting short lasting (suc n) (suc i) r (x ∷ xs) = ap (cond (short x) true) (grow_at_lasting short lasting n i r xs)
+  -- of slots, by a shortage that may differ from slot to slot
+  module _ (short : ℕ → S → Bool) where
+    pub grow_at_lasting : ((j : ℕ) (r : RunnerState X) (x : S) → short j (g r x).place ≡ short j x) → (n i : ℕ) (r : RunnerState X) (xs : List S) → lacking_by_number short n (grow_at g i r xs).place ≡ lacking_by_number short n xs
+    grow_at_lasting lasting n i r xs = rw (grow_at_place i r xs) (lacking_changed short (λ x. (g r x).place) (λ j. lasting j r) n i xs)
 
-  grow_at_untold : (short : S → Bool) → ((r : RunnerState X) (x : S) (fault : GrowFault) → short x ≡ false → (g r x).answer ≡ Err fault → fault.cause ≡ Slots → ⊥) →
-      (n i : ℕ) → i < n → (r : RunnerState X) (xs : List S) (fault : GrowFault) → lacking short n xs ≡ false → (grow_at g i r xs).answer ≡ Err fault → fault.cause ≡ Slots → ⊥
-  grow_at_untold short untold zero i below r xs fault enough e = absurd (omega (arith, below))
-  grow_at_untold short untold (suc n) i below r [] fault enough e = absurd (true≢false enough)
-  grow_at_untold short untold (suc n) zero below r (x ∷ xs) fault enough e = untold r x fault (neither (short x) (lacking short n xs) enough).0 e
-  grow_at_untold short untold (suc n) (suc i) below r (x ∷ xs) fault enough e = grow_at_untold short untold n i (omega (arith, below)) r xs fault (neither (short x) (lacking short n xs) enough).1 e
+    pub grow_at_untold : (i : ℕ) → ((r : RunnerState X) (x : S) (fault : GrowFault) → short i x ≡ false → (g r x).answer ≡ Err fault → fault.cause ≡ Slots → ⊥) →
+        (n : ℕ) → i < n → (r : RunnerState X) (xs : List S) (fault : GrowFault) → lacking_by_number short n xs ≡ false → (grow_at g i r xs).answer ≡ Err fault → fault.cause ≡ Slots → ⊥
+    grow_at_untold i untold n below r xs fault enough = along_slot (λ x. short i x ≡ false) (λ j ys. (grow_at g j r ys).answer ≡ Err fault → fault.cause ≡ Slots → ⊥) (λ x ys. untold r x fault) (λ j x ys held. held) i xs (slot_enough short n i below xs enough)
 
   module _ {I : Type 0} (t : Steps S I) (sound : S → Type 0) (longest : ℕ) where
     abbrev pub Accepted : {S : Type 0} → Steps S I → (S → Type 0) → S → Type 0
     Accepted t sound s = Rooted t sound s × (t.longest s ≡ longest)
 
-    accepted_here : (x : S) (xs : List S) → Accepted t sound x → Accepted (slice_table t 0) (Slot sound 0) (x ∷ xs)
-    accepted_here x xs (root, states) = (record { is_sound = root.is_sound; is_grown = root.is_grown; at_home = root.at_home; no_back = root.no_back }, states)
-
-    accepted_later : (i : ℕ) (x : S) (xs : List S) → Accepted (slice_table t i) (Slot sound i) xs → Accepted (slice_table t (suc i)) (Slot sound (suc i)) (x ∷ xs)
-    accepted_later i x xs (root, states) = (record { is_sound = root.is_sound; is_grown = root.is_grown; at_home = root.at_home; no_back = root.no_back }, states)
-
     pub grow_at_accepted : ((r : RunnerState X) (x : S) → (g r x).answer ≡ Ok tt → Accepted t sound (g r x).place) →
         (i : ℕ) (r : RunnerState X) (xs : List S) → (grow_at g i r xs).answer ≡ Ok tt → Accepted (slice_table t i) (Slot sound i) (grow_at g i r xs).place
-    grow_at_accepted accepted i r [] e = absurd (accepted_is_no_fault (sym e))
-    grow_at_accepted accepted zero r (x ∷ xs) e = accepted_here (g r x).place xs (accepted r x e)
-    grow_at_accepted accepted (suc i) r (x ∷ xs) e = accepted_later i x (grow_at g i r xs).place (grow_at_accepted accepted i r xs e)
+    grow_at_accepted accepted i r = along (λ j xs. (grow_at g j r xs).answer ≡ Ok tt → Accepted (slice_table t j) (Slot sound j) (grow_at g j r xs).place)
+        (λ j e. absurd (accepted_is_no_fault (sym e)))
+        (λ x xs e. let (root, states) = accepted r x e in (record { is_sound = root.is_sound; is_grown = root.is_grown; at_home = root.at_home; no_back = root.no_back }, states))
+        (λ j x xs held e. let (root, states) = held e in (record { is_sound = root.is_sound; is_grown = root.is_grown; at_home = root.at_home; no_back = root.no_back }, states))
+        i
 
 pub slice_roots : {S I P Q : Type 0} {t : Steps S I} {sound : S → Type 0} {short : P → S → Bool} {g : Growth P S} {stated : P → ℕ} (under : Q → P) → Roots t sound short g stated →
     TableRoots (slice_table t) (Slot sound) (slice_short under short) (slice_growth under g) (slice_stated under stated)
@@ -148,8 +141,8 @@ slice_roots {t = t} {sound = sound} {short = short} {g = g} {stated = stated} un
       let grown = grow_at_accepted (g p X w) t sound (stated p) (roots.accepted p X w) i r xs e in
       (grown.0, ap (λ (n : ℕ). i * stated p + n) grown.1 ∙ sym (suc-mul i (stated p)));
   apart = λ q X w i j other r xs. rw (grow_at_place (g (under q) X w) i r xs) (slice_apart (λ x. (g (under q) X w r x).place) t sound i j other xs);
-  untold = λ q X w. grow_at_untold (g (under q) X w) (short (under q)) (roots.untold (under q) X w);
-  lasting = λ q other X w. grow_at_lasting (g (under q) X w) (short (under other)) (roots.lasting (under q) (under other) X w);
+  untold = λ q X w n i below r xs fault enough. grow_at_untold (g (under q) X w) (λ j. short (under q)) i (roots.untold (under q) X w) n below r xs fault (rw lacking_each at enough);
+  lasting = λ q other X w n i r xs. simp lacking_each (grow_at_lasting (g (under q) X w) (λ j. short (under other)) (λ j. roots.lasting (under q) (under other) X w) n i r xs);
   calm = λ q X w. grow_at_calm (g (under q) X w) (roots.calm (under q) X w);
   none = λ q. zero-mul (stated (under q));
   rising = λ q n. let more = suc-mul n (stated (under q)) in omega arith;

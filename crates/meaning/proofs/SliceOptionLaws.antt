@@ -13,47 +13,20 @@ use Rattle.meaning.specs.TableLaws.{Slot, Limited}
 use Rattle.meaning.specs.Lazies.{Lazy, lazy_start, lazy_steps, lazy_short, lazy_growth, lazy_wait}
 use Rattle.meaning.specs.LazyLaws.{lazy_sound, OptionsKeep, OptionsRoot}
 use Rattle.meaning.specs.SliceOptions.{slice_start, lacking_by_number, slice_options_short, slice_options_growth, slice_options_wait, slice_options_stated, slice_options_sound}
-use Rattle.meaning.proofs.Growing.{neither}
-use Rattle.meaning.proofs.SliceLaws.{slice_keeps, slice_apart, grow_at_place, grow_at_calm, grow_at_accepted}
+use Rattle.meaning.proofs.SliceLaws.{along_slot, slot_enough, lacking_changed, slice_keeps, slice_apart, grow_at_place, grow_at_calm, grow_at_lasting, grow_at_untold, grow_at_accepted}
 use Rattle.meaning.proofs.LazyOptions.{limited_keeps, lazy_limited, lazy_keeps, started_sound, lazy_roots, lazy_accepted, lazy_waits}
 
 -- a slot that is changed
 slot_changed : {S : Type 0} (P Q : S → Type 0) (change : S → S) → ((x : S) → P x → Q (change x)) → (i : ℕ) (xs : List S) → Slot P i xs → Slot Q i (change_at change xs i)
-slot_changed P Q change changed i [] here = absurd here
-slot_changed P Q change changed zero (x ∷ xs) here = changed x here
-slot_changed P Q change changed (suc i) (x ∷ xs) here = slot_changed P Q change changed i xs here
-
-slot_limited : {S I : Type 0} (t : Steps S I) (sound : S → Type 0) (limit i : ℕ) (xs : List (Lazy S)) → slice_options_sound t sound limit i xs → (slice_table (lazy_steps t) i).longest xs ≤ limit
-slot_limited t sound limit i [] here = absurd here
-slot_limited t sound limit zero (x ∷ xs) here = lazy_limited t sound limit x here
-slot_limited t sound limit (suc i) (x ∷ xs) here = slot_limited t sound limit i xs here
+slot_changed P Q change changed = along_slot P (λ i xs. Slot Q i (change_at change xs i)) (λ x xs. changed x) (λ i x xs held. held)
 
 pub slice_options_keep : {S I : Type 0} {t : Steps S I} {sound : S → Type 0} → Keeps t sound → OptionsKeep (slice_table (lazy_steps t)) slice_start (slice_options_sound t sound)
 slice_options_keep {t = t} {sound = sound} keeps = record {
   keeps = λ limit. slice_keeps (lazy_keeps (limited_keeps keeps limit));
-  limited = slot_limited t sound;
+  limited = λ limit. along_slot (lazy_sound (Limited t sound limit)) (λ i xs. (slice_table (lazy_steps t) i).longest xs ≤ limit) (λ x xs. lazy_limited t sound limit x) (λ i x xs held. held);
   starts = λ limit. let limited = Limited t sound limit in slot_changed (lazy_sound limited) (lazy_sound limited) lazy_start (started_sound limited);
   starts_apart = λ limit. slice_apart lazy_start (lazy_steps t) (lazy_sound (Limited t sound limit));
 }
-
--- where the first n slots are enough, each of them is there and is enough for its strategy
-slot_enough : {S : Type 0} (short : ℕ → S → Bool) (n i : ℕ) → i < n → (xs : List S) → lacking_by_number short n xs ≡ false → Slot (λ x. short i x ≡ false) i xs
-slot_enough short zero i below xs enough = absurd (omega (arith, below))
-slot_enough short (suc n) i below [] enough = absurd (true≢false enough)
-slot_enough short (suc n) zero below (x ∷ xs) enough = (neither (short 0 x) _ enough).0
-slot_enough short (suc n) (suc i) below (x ∷ xs) enough = slot_enough (λ j. short (suc j)) n i (omega (arith, below)) xs (neither (short 0 x) _ enough).1
-
-lacking_changed : {S : Type 0} (short : ℕ → S → Bool) (change : S → S) → ((j : ℕ) (x : S) → short j (change x) ≡ short j x) → (n i : ℕ) (xs : List S) → lacking_by_number short n (change_at change xs i) ≡ lacking_by_number short n xs
-lacking_changed short change same zero i xs = refl
-lacking_changed short change same (suc n) i [] = refl
-lacking_changed short change same (suc n) zero (x ∷ xs) = ap (λ (b : Bool). cond b true (lacking_by_number (λ j. short (suc j)) n xs)) (same 0 x)
-lacking_changed short change same (suc n) (suc i) (x ∷ xs) = ap (cond (short 0 x) true) (lacking_changed (λ j. short (suc j)) change (λ j. same (suc j)) n i xs)
-
-slot_untold : {X S : Type 0} (g : Grows X S) (short : S → Bool) → ((r : RunnerState X) (x : S) (fault : GrowFault) → short x ≡ false → (g r x).answer ≡ Err fault → fault.cause ≡ Slots → ⊥) →
-    (i : ℕ) (r : RunnerState X) (xs : List S) (fault : GrowFault) → Slot (λ x. short x ≡ false) i xs → (grow_at g i r xs).answer ≡ Err fault → fault.cause ≡ Slots → ⊥
-slot_untold g short untold i r [] fault here e = absurd here
-slot_untold g short untold zero r (x ∷ xs) fault here e = untold r x fault here e
-slot_untold g short untold (suc i) r (x ∷ xs) fault here e = slot_untold g short untold i r xs fault here e
 
 module _ {S I P Q : Type 0} {t : Steps S I} {sound : S → Type 0} {short : P → S → Bool} {g : Growth P S} {stated : P → ℕ} (number : Q → ℕ → P) (roots : Roots t sound short g stated) where
   abbrev grows : Growth P (Lazy S)
@@ -69,9 +42,8 @@ module _ {S I P Q : Type 0} {t : Steps S I} {sound : S → Type 0} {short : P �
   slice_options_root = record {
     accepted = λ q X w limit i fits r xs e. let p = number q i in grow_at_accepted (grows p X w) (lazy_steps t) (Sound limit) (stated p) (lazy_accepted roots p limit fits X w) i r xs e;
     apart = λ q X w limit i j other r xs. let p = number q i in rw (grow_at_place (grows p X w) i r xs) (slice_apart (λ x. (grows p X w r x).place) (lazy_steps t) (Sound limit) i j other xs);
-    untold = λ q X w n i below r xs fault enough. let p = number q i in slot_untold (grows p X w) (shorts q i) ((lazy_roots roots).untold p X w) i r xs fault (slot_enough (shorts q) n i below xs enough);
-    lasting = λ q other X w n i r xs. let p = number q i in
-        rw (grow_at_place (grows p X w) i r xs) (lacking_changed (shorts other) (λ x. (grows p X w r x).place) (λ j. (lazy_roots roots).lasting p (number other j) X w r) n i xs);
+    untold = λ q X w n i. let p = number q i in grow_at_untold (grows p X w) (shorts q) i ((lazy_roots roots).untold p X w) n;
+    lasting = λ q other X w n i. let p = number q i in grow_at_lasting (grows p X w) (shorts other) (λ j. (lazy_roots roots).lasting p (number other j) X w) n i;
     calm = λ q X w i. let p = number q i in grow_at_calm (grows p X w) ((lazy_roots roots).calm p X w) i;
     waits = λ q X w limit n i fits below r xs enough. let p = number q i in
         slot_changed (λ x. shorts q i x ≡ false) (Sound limit) (lazy_wait g p X w r) (λ x enough. lazy_waits roots p limit fits X w r x) i xs (slot_enough (shorts q) n i below xs enough);
