@@ -4,7 +4,7 @@
 --   sampled_minimum its fewest members are its lowest size
 
 use Rattle.std.proofs.Common.{◌≡◌, ℕ, zero, suc, ◌+◌, ◌-◌, ◌^◌, ◌<◌, ◌≤◌, Bool, true, false, cond, ltb, List, length, get_or, set, replicate, Ok, ◌∙◌, le_refl, arith, length-set, get_or-set_other}
-use lib.ListN.{length-replicate}
+use Rattle.std.proofs.lemmas.List.{length-replicate, get_or-replicate}
 use Rattle.std.proofs.lemmas.Bool.{cond_both, ltb-false}
 use Rattle.draws.specs.Draws.{drawn, answered}
 use Rattle.draws.specs.Runners.{RunnerState, advanced}
@@ -15,7 +15,7 @@ use Rattle.meaning.specs.Sets.{SetTree, set_steps}
 use Rattle.meaning.specs.SetLaws.{SetSound, set_sound, Sampleable}
 use Rattle.meaning.specs.BitSets.{own_number, bit_set, flip_from, flipped, bits_growth, bits_stated, sample_from, sampled, sampled_growth}
 use Rattle.meaning.specs.Vectors.{members}
-use Rattle.meaning.proofs.Included.{members_more, members_at_most_more, no_members, none_there}
+use Rattle.meaning.proofs.Included.{members_more, members_put, no_members}
 use Rattle.meaning.proofs.Drawing.{drawn_range, Draws, drawn_on}
 use Rattle.meaning.proofs.SetGrowth.{set_minimum, set_roots}
 
@@ -27,27 +27,27 @@ bits_sound : (low cursor longest : ℕ) (included : List Bool) → low ≤ membe
 bits_sound low cursor longest included enough room = record { enough = enough; distinct = λ i j _ _ same. same; room = room }
 
 members_if_more : (yes : Bool) (bs : List Bool) (i : ℕ) → members (cond yes (set bs i true) bs) ≤ suc (members bs)
-members_if_more true bs i = members_at_most_more bs i
+members_if_more true bs i = (members_put bs i).1
 members_if_more false bs i = omega arith
 
 -- the m bits from number i on lie within the set, and no bit from there on is included
 record Clear (m i : ℕ) (bs : List Bool) : Type 0 where
   inside : i + m ≤ length bs
-  none : (j : ℕ) → i ≤ j → get_or bs j false ≡ false
+  none : (j : ℕ) → i ≤ j → j < length bs → get_or bs j false ≡ false
 
 taken_clear : (m i : ℕ) (bs : List Bool) → Clear (suc m) i bs → Clear m (suc i) (set bs i true)
 taken_clear m i bs clear =
     let inside = clear.inside in
     record {
       inside = rw length-set (omega (arith, inside));
-      none = λ j past. get_or-set_other bs i j true false (λ e. omega (arith, e, past)) ∙ clear.none j (omega (arith, past));
+      none = λ j past below. get_or-set_other bs i j true false (λ e. omega (arith, e, past)) ∙ clear.none j (omega (arith, past)) (rw length-set at below);
     }
 
 passed_clear : (m i : ℕ) (bs : List Bool) → Clear (suc m) i bs → Clear m (suc i) bs
-passed_clear m i bs clear = let inside = clear.inside in record { inside = omega (arith, inside); none = λ j past. clear.none j (omega (arith, past)) }
+passed_clear m i bs clear = let inside = clear.inside in record { inside = omega (arith, inside); none = λ j past below. clear.none j (omega (arith, past)) below }
 
 none_clear : (min max size : ℕ) → min ≤ max → max ≤ size → Clear (max - min) min (replicate size false)
-none_clear min max size ordered within = let all = length-replicate size false in record { inside = omega (arith, all, ordered, within); none = λ j past. none_there size j }
+none_clear min max size ordered within = let all = length-replicate size false in record { inside = omega (arith, all, ordered, within); none = λ j past below. get_or-replicate size j false false (omega (arith, all, below)) }
 
 module _ {X : Type 0} (w : Words X) (low cursor longest : ℕ) where
   abbrev Drawn : RunnerState X → Outcome X (List Bool) → Type 0
@@ -59,7 +59,7 @@ module _ {X : Type 0} (w : Words X) (low cursor longest : ℕ) where
   samples zero (suc k) i r bs few wanted clear large small = absurd (omega (arith, wanted))
   samples (suc m) (suc k) i r bs few wanted clear large small =
       let inside = clear.inside in
-      let more = members_more bs i (omega (arith, inside)) (clear.none i (le_refl i)) in
+      let more = members_more bs i (omega (arith, inside)) (clear.none i (le_refl i) (omega (arith, inside))) in
       drawn_on (Sound low cursor longest) (drawn 0 m (word w r.source)) r' bs _
       (λ v drew. cond_both (ltb v (suc k)) (sample_from w m k (suc i) r' (set bs i true)) (sample_from w m (suc k) (suc i) r' bs) (Drawn r)
       (λ taken. samples m k (suc i) r' (set bs i true) (omega (arith, few)) (omega (arith, wanted)) (taken_clear m i bs clear) (omega (arith, more, large)) (omega (arith, more, small)))

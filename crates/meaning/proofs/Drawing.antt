@@ -21,7 +21,7 @@ within_range low high word ordered narrow =
     rw (lt-ltb (high - low) (2 ^ 64 - 1) narrow) (omega (arith, rest), omega (arith, rest, ordered))
 
 pub drawn_range : (low high : ℕ) → low ≤ high → high - low < 2 ^ 64 - 1 → (word : Option ℕ) (n : ℕ) → drawn low high word ≡ Ok n → (low ≤ n) × (n ≤ high)
-drawn_range low high ordered narrow None n e = let clash : ◌≡◌ {A = ℕ} 0 1 = cc in absurd (omega arith)
+drawn_range low high ordered narrow None n e = absurd (cc)
 drawn_range low high ordered narrow (Some word) n e = let size : within low high word ≡ n = cc in rw size at (within_range low high word ordered narrow)
 
 abbrev pub Draws : {X T : Type 0} → (T → Type 0) → ℕ → Outcome X T → Type 0

@@ -20,7 +20,7 @@ use Rattle.meaning.proofs.Growing.{neither}
 
 accepted_is : {S : Type 0} (answer : Grown) (s new : S) (A : S → Type 0) → (answer ≡ Ok tt → A s) → if_accepted answer s ≡ Some new → A new
 accepted_is (Ok _) s new A accepted e = let same : s ≡ new = cc in subst A same (accepted refl)
-accepted_is (Err fault) s new A accepted e = let clash : ◌≡◌ {A = ℕ} 0 1 = cc in absurd (omega arith)
+accepted_is (Err fault) s new A accepted e = absurd (cc)
 
 module _ {M S J I N P Q : Type 0} {source : Steps M J} {t : Steps S I} {source_sound : M → Type 0} {sound : S → Type 0} {source_short : N → M → Bool} {short : P → S → Bool}
     {gm : Growth N M} {g : Growth P S} {source_stated : N → ℕ} {stated : P → ℕ} (under : Q → N) (chooser : Chooser Q J P S) (chooser-keeps : ChooserKeeps chooser short stated)

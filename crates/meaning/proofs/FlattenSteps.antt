@@ -10,8 +10,8 @@ use Rattle.meaning.specs.Offers.{Request, Offers, asked}
 use Rattle.meaning.specs.Offers.Request.{spend}
 use Rattle.meaning.specs.Flattens.{FlatTree, with_trees, with_final, with_runner, moves, led_home, alone, wanted, offered, renewed, another, returning, flat_simplify, further, once_more, regenerating, flat_complicate, bare_flat, flat_steps}
 use Rattle.meaning.specs.FlattenLaws.{Shut, Fitting, FlatSound, flat_sound}
-use Rattle.meaning.proofs.FuseLaws.{fuse_keeps}
-use Rattle.meaning.proofs.ShutFuses.{shut_is, step, still_shut, led_rests}
+use Rattle.meaning.proofs.FuseLaws.{step, fuse_keeps}
+use Rattle.meaning.proofs.ShutFuses.{shut_is, still_shut, led_rests}
 use Rattle.meaning.proofs.VectorSteps.{keeps_standing}
 use Rattle.meaning.proofs.FlattenEnds.{flat_ends}
 

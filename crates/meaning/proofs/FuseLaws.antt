@@ -24,7 +24,7 @@ module _ {S : Type 0} where
   abbrev complicated : FuseTree S → Stepped S → Stepped (FuseTree S)
   complicated s inner = cond s.may_complicate (fuse_complicated s inner) (stays s)
 
-  abbrev step : Bool → S → Stepped S
+  abbrev pub step : Bool → S → Stepped S
   step answer s = record { answer = answer; tree = s }
 
 module _ {S I : Type 0} (t : Steps S I) where

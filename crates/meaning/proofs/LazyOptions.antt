@@ -7,7 +7,7 @@
 --   lazy_accepted, lazy_waits   an option that grew, or that waits, is sound with the limit that its strategy states
 
 use Rattle.std.proofs.Common.{◌≡◌, ℕ, ◌≤◌, Bool, true, false, length, Ok, Err, refl, ap, ◌∙◌, inl, le_refl, arith}
-use mathlib.Core.Bool.{false≢true}
+use Rattle.std.proofs.lemmas.Bool.{false≢true}
 use Rattle.draws.specs.Sources.{Words}
 use Rattle.draws.specs.Runners.{RunnerState}
 use Rattle.draws.specs.declared.faults.Cause.TheVariants.{Slots}

@@ -2,22 +2,19 @@
 --   end_total, end_keeps, end_roots      of the table with no tree
 --   pair_total, pair_keeps, pair_roots   of a pair
 
-use Rattle.std.proofs.Common.{◌≡◌, ℕ, zero, suc, ◌+◌, ◌<◌, ◌≤◌, Bool, true, false, cond, Ok, Err, sym, refl, ap, ◌∙◌, subst, true≢false, le_refl, arith}
+use Rattle.std.proofs.Common.{◌≡◌, ℕ, zero, suc, ◌+◌, ◌<◌, ◌≤◌, Bool, true, false, cond, Ok, Err, sym, refl, ap, ◌∙◌, true≢false, le_refl, arith}
 use Rattle.draws.specs.Sources.{Words}
 use Rattle.draws.specs.Runners.{RunnerState}
 use Rattle.draws.specs.declared.faults.Cause.TheVariants.{Slots}
 use Rattle.draws.specs.declared.faults.GrowFault.{GrowFault}
-use Rattle.meaning.specs.Trees.{Steps, meant, Blank, Total, Keeps}
+use Rattle.meaning.specs.Trees.{Steps, Blank, Total, Keeps}
 use Rattle.meaning.specs.Growths.{Growth, Rooted, Roots}
 use Rattle.meaning.specs.GrowthLaws.{accepted_is_no_fault}
 use Rattle.meaning.specs.Tables.{TableGrowth}
 use Rattle.meaning.specs.TableLaws.{Apart, TableTotal, TableKeeps, TableRoots}
 use Rattle.meaning.specs.Pairs.{Pair, Part, first_part, rest_part, part_steps, no_trees, pair_table, end_growth, pair_growth, end_short, pair_short, end_stated, pair_stated, end_sound, pair_sound}
 use Rattle.meaning.proofs.Growing.{neither}
-
--- what was not changed is apart
-same_apart : {S I : Type 0} (t : Steps S I) (sound : S → Type 0) {before now : S} → now ≡ before → Apart t sound before now
-same_apart t sound e = record { same_meant = ap (meant t) e; same_longest = ap t.longest e; same_grown = ap t.grown e; still_sound = subst sound (sym e) }
+use Rattle.meaning.proofs.Walking.{same_apart}
 
 -- what holds of a part's tree holds of the part
 module _ {W S I : Type 0} (part : Part W S) (t : Steps S I) where

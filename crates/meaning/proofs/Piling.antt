@@ -1,7 +1,7 @@
 -- Every pile keeps its meaning, and so the promise.
 
-use Rattle.std.proofs.Common.{◌≡◌, ℕ, zero, suc, Bool, true, false, List, [], ◌∷◌, is_some, Some, None, Option}
-use mathlib.Core.Bool.{false≢true}
+use Rattle.std.proofs.Common.{◌≡◌, ℕ, zero, suc, Bool, true, false, List, is_some, Some, None, Option}
+use Rattle.std.proofs.lemmas.Bool.{false≢true}
 use Rattle.draws.specs.Sources.{Words}
 use Rattle.draws.specs.Runners.{RunnerState}
 use Rattle.meaning.specs.Trees.{Steps, Total, Keeps}

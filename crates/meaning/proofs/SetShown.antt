@@ -5,16 +5,15 @@
 --   set_shows_fitting  a set shows items that fit, where its numbers name such items
 --   simplify_names, complicate_names   they go on to do so
 
-use Rattle.std.proofs.Common.{◌≡◌, ℕ, suc, ◌+◌, ◌<◌, ◌≤◌, Bool, true, false, ltb, List, [], ◌∷◌, length, set, Some, None, Option, refl, le_refl, arith, length-set}
-use mathlib.Core.Bool.{false≢true}
-use Rattle.std.proofs.lemmas.Bool.{cond_both}
+use Rattle.std.proofs.Common.{◌≡◌, ℕ, suc, ◌+◌, ◌<◌, ◌≤◌, Bool, true, false, List, [], ◌∷◌, length, set, Some, None, Option, refl, le_refl, arith, length-set}
+use Rattle.std.proofs.lemmas.Bool.{false≢true}
 use Rattle.std.specs.List.{AllByRecursion}
-use Rattle.meaning.specs.Trees.{Stepped, stays}
+use Rattle.meaning.specs.Trees.{Stepped}
 use Rattle.meaning.specs.Places.{Place}
-use Rattle.meaning.specs.Sets.{SetTree, first_member, cleared, ran_past, clears_at, set_complicate, set_steps}
+use Rattle.meaning.specs.Sets.{SetTree, set_complicate, set_steps}
 use Rattle.meaning.specs.SetLaws.{Distinct, set_sound, Naming, Once}
-use Rattle.meaning.specs.Vectors.{members, joined}
-use Rattle.meaning.proofs.SetSteps.{named_length}
+use Rattle.meaning.specs.Vectors.{joined}
+use Rattle.meaning.proofs.SetSteps.{named_length, simplified}
 
 -- the items of the included numbers from i on
 module _ {I : Type 0} (item : ℕ → I) where
@@ -52,11 +51,7 @@ module _ {I : Type 0} where
 
   -- a step, by whether the place is grown: the fewest members stay as they are
   simplify_minimum_at : (grown : Bool) (s : SetTree I) → (set_steps.simplify (place grown s)).tree.tree.min_count ≡ s.min_count
-  simplify_minimum_at true s =
-      let i = first_member s.included s.shrink in
-      cond_both (ltb s.min_count (members s.included)) (clears_at s i) (stays s) (λ (stepped : Stepped (SetTree I)). stepped.tree.min_count ≡ s.min_count)
-      (λ more. cond_both (ltb i (length s.included)) (cleared s i) (ran_past s i) (λ (stepped : Stepped (SetTree I)). stepped.tree.min_count ≡ s.min_count) (λ below. refl) (λ past. refl))
-      (λ fewest. refl)
+  simplify_minimum_at true s = simplified (λ (stepped : Stepped (SetTree I)). stepped.tree.min_count ≡ s.min_count) s (λ i more member. refl) (λ i. refl) refl
   simplify_minimum_at false s = refl
 
   complicated_minimum : (s : SetTree I) (last : Option ℕ) → (set_complicate s last).tree.min_count ≡ s.min_count
@@ -90,11 +85,7 @@ module _ {I : Type 0} where
     names_set s i member names j below = names j (rw length-set at below)
 
     simplify_names_at : (grown : Bool) (s : SetTree I) → Naming Fit (place grown s) → Naming Fit (set_steps.simplify (place grown s)).tree
-    simplify_names_at true s names =
-        let i = first_member s.included s.shrink in
-        cond_both (ltb s.min_count (members s.included)) (clears_at s i) (stays s) (λ (stepped : Stepped (SetTree I)). Names stepped.tree)
-        (λ more. cond_both (ltb i (length s.included)) (cleared s i) (ran_past s i) (λ (stepped : Stepped (SetTree I)). Names stepped.tree) (λ below. names_set s i false names) (λ past. names))
-        (λ fewest. names)
+    simplify_names_at true s names = simplified (λ (stepped : Stepped (SetTree I)). Names stepped.tree) s (λ i more member. names_set s i false names) (λ i. names) names
     simplify_names_at false s names = tt
 
     complicated_names : (s : SetTree I) (last : Option ℕ) → Names s → Names (set_complicate s last).tree

@@ -2,15 +2,14 @@
 --   set_total   at every state
 --   set_keeps   a sound set keeps its meaning
 
-use Rattle.std.proofs.Common.{◌≡◌, ℕ, suc, ◌<◌, ◌≤◌, Bool, true, false, cond, ltb, List, [], ◌∷◌, length, get_or, Some, None, Option, refl, ap, inl, inr, le_refl, arith, length-append, length-set}
+use Rattle.std.proofs.Common.{◌≡◌, ℕ, zero, suc, ◌<◌, ◌≤◌, Bool, true, false, cond, ltb, List, [], ◌∷◌, length, get_or, drop, Some, None, Option, refl, ap, inl, inr, le_refl, add-suc, suc-add, arith, length-append, length-set}
 use Rattle.std.proofs.lemmas.Bool.{cond_both, ltb-true}
-use Rattle.meaning.specs.Trees.{Steps, stays, Ends, SimplifyKept, ComplicateKept, Total, Keeps}
+use Rattle.meaning.specs.Trees.{Stepped, Steps, stays, Ends, SimplifyKept, ComplicateKept, Total, Keeps}
 use Rattle.meaning.specs.PlaceLaws.{always, placed_total, placed_keeps}
-use Rattle.meaning.specs.Sets.{SetTree, named, with_noted, first_member, cleared, ran_past, clears_at, set_simplify, set_complicate, bare_set, set_steps}
+use Rattle.meaning.specs.Sets.{SetTree, named, with_noted, skipped, first_member, cleared, ran_past, clears_at, set_simplify, set_complicate, bare_set, set_steps}
 use Rattle.meaning.specs.SetLaws.{SetSound, set_sound}
 use Rattle.meaning.specs.Vectors.{members, joined}
-use Rattle.meaning.proofs.FirstMember.{first_is_member}
-use Rattle.meaning.proofs.Included.{members_less, members_no_less, deleted_and_back}
+use Rattle.meaning.proofs.Included.{members_less, members_put, deleted_and_back}
 
 one_item : {I : Type 0} (b : Bool) (x : I) → length (cond b (x ∷ []) []) ≡ cond b 1 0
 one_item true x = refl
@@ -26,9 +25,25 @@ named_length item i (b ∷ bs) =
 
 put_back_no_less : (bs : List Bool) (last : Option ℕ) → members bs ≤ members (with_noted bs last)
 put_back_no_less bs None = le_refl (members bs)
-put_back_no_less bs (Some i) = members_no_less bs i
+put_back_no_less bs (Some i) = (members_put bs i).0
+
+first_is_member : (bs : List Bool) (i : ℕ) → first_member bs i < length bs → get_or bs (first_member bs i) false ≡ true
+first_is_member [] i below = absurd (omega (arith, below))
+first_is_member (true ∷ bs) zero below = refl
+first_is_member (false ∷ bs) zero below = rw (add-suc 0 (skipped bs)) (first_is_member bs zero (omega (arith, below)))
+first_is_member (b ∷ bs) (suc i) below = rw (suc-add i (skipped (drop i bs))) (first_is_member bs i (omega (arith, below)))
 
 module _ {I : Type 0} where
+  -- simplify clears a member, runs past the end or stays
+  pub simplified : (Holds : Stepped (SetTree I) → Type 0) (s : SetTree I) → ((i : ℕ) → s.min_count < members s.included → get_or s.included i false ≡ true → Holds (cleared s i)) → ((i : ℕ) → Holds (ran_past s i)) → Holds (stays s) → Holds (set_simplify s)
+  simplified Holds s clears passes rests =
+      let i = first_member s.included s.shrink in
+      cond_both (ltb s.min_count (members s.included)) (clears_at s i) (stays s) Holds
+      (λ more. cond_both (ltb i (length s.included)) (cleared s i) (ran_past s i) Holds
+      (λ below. clears i (ltb-true _ _ more) (first_is_member s.included s.shrink (ltb-true _ _ below)))
+      (λ past. passes i))
+      (λ fewest. rests)
+
   abbrev bare : Steps (SetTree I) I
   bare = always bare_set
 
@@ -61,24 +76,15 @@ module _ {I : Type 0} where
   past_kept : (s : SetTree I) (i : ℕ) → SetSound s → SimplifyKept bare SetSound s (ran_past s i)
   past_kept s i is_sound = (record { enough = is_sound.enough; distinct = is_sound.distinct; room = fits s is_sound }, (refl, inr refl), refl)
 
-  clears_kept : (s : SetTree I) (i : ℕ) → SetSound s → s.min_count < members s.included → (i < length s.included → get_or s.included i false ≡ true) → SimplifyKept bare SetSound s (clears_at s i)
-  clears_kept s i is_sound more member = cond_both (ltb i (length s.included)) (cleared s i) (ran_past s i) (SimplifyKept bare SetSound s)
-      (λ below. cleared_kept s i is_sound more (member (ltb-true _ _ below)))
-      (λ past. past_kept s i is_sound)
-
   simplify_kept : (s : SetTree I) → SetSound s → SimplifyKept bare SetSound s (set_simplify s)
-  simplify_kept s is_sound =
-      let i = first_member s.included s.shrink in
-      cond_both (ltb s.min_count (members s.included)) (clears_at s i) (stays s) (SimplifyKept bare SetSound s)
-      (λ more. clears_kept s i is_sound (ltb-true _ _ more) (first_is_member s.included s.shrink))
-      (λ fewest. (is_sound, (refl, inl refl), refl))
+  simplify_kept s is_sound = simplified (SimplifyKept bare SetSound s) s (λ i more member. cleared_kept s i is_sound more member) (λ i. past_kept s i is_sound) (is_sound, (refl, inl refl), refl)
 
   complicate_kept : (s : SetTree I) (last : Option ℕ) → SetSound (noting s last) → ComplicateKept bare SetSound (noting s last) (set_complicate (noting s last) last)
   complicate_kept s None is_sound = (is_sound, (refl, refl, refl, le_refl 0), refl)
   complicate_kept s (Some i) is_sound =
       let enough = is_sound.enough in
-      let no_less = members_no_less s.included i in
-      (record { enough = omega (arith, enough, no_less); distinct = rw (length-set s.included i true) is_sound.distinct; room = is_sound.room }, (refl, omega arith), refl)
+      let more = members_put s.included i in
+      (record { enough = omega (arith, enough, more); distinct = rw (length-set s.included i true) is_sound.distinct; room = is_sound.room }, (refl, omega arith), refl)
 
   pub set_total : Total (set_steps {I = I})
   set_total = placed_total bare_set (λ s. set_ends s s.prev_shrink)

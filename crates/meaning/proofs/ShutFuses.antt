@@ -9,13 +9,10 @@ use Rattle.meaning.specs.Trees.{Stepped, stays, Steps, ComplicateKept, Keeps}
 use Rattle.meaning.specs.Fuses.{FuseTree, fuse_simplified, fuse_complicated, disallow_complicate, fuse_steps, fuse_sound}
 use Rattle.meaning.specs.Sifters.{settle_once, settle}
 use Rattle.meaning.specs.FlattenLaws.{Shut}
-use Rattle.meaning.proofs.FuseLaws.{fuse_keeps}
+use Rattle.meaning.proofs.FuseLaws.{step, fuse_keeps}
 
 pub shut_is : {S : Type 0} (f : FuseTree S) → Shut f → f ≡ disallow_complicate f
 shut_is f shut = ap (λ (may : Bool). record { inner = f.inner; may_simplify = f.may_simplify; may_complicate = may }) shut
-
-abbrev pub step : {S : Type 0} → Bool → S → Stepped S
-step answer s = record { answer = answer; tree = s }
 
 module _ {S I : Type 0} (t : Steps S I) where
   pub still_shut : (f : FuseTree S) → ((fuse_steps t).simplify f).answer ≡ false → Shut f → Shut ((fuse_steps t).simplify f).tree

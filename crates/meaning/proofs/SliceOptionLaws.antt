@@ -2,17 +2,14 @@
 --   slice_options_keep   they keep their meaning, and so does starting one
 --   slice_options_root   their growth and their waiting keep what they should
 
-use Rattle.std.proofs.Common.{◌≡◌, ℕ, zero, suc, ◌<◌, ◌≤◌, Bool, true, false, cond, List, [], ◌∷◌, Err, refl, ap, true≢false, arith}
-use Rattle.draws.specs.Runners.{RunnerState}
-use Rattle.draws.specs.declared.faults.Cause.TheVariants.{Slots}
-use Rattle.draws.specs.declared.faults.GrowFault.{GrowFault}
+use Rattle.std.proofs.Common.{◌≡◌, ℕ, ◌≤◌, Bool, false, List, refl}
 use Rattle.meaning.specs.Trees.{Steps, Keeps}
-use Rattle.meaning.specs.Growths.{Grows, Growth, Roots}
-use Rattle.meaning.specs.Tables.{change_at, slice_table, grow_at}
+use Rattle.meaning.specs.Growths.{Growth, Roots}
+use Rattle.meaning.specs.Tables.{change_at, slice_table}
 use Rattle.meaning.specs.TableLaws.{Slot, Limited}
 use Rattle.meaning.specs.Lazies.{Lazy, lazy_start, lazy_steps, lazy_short, lazy_growth, lazy_wait}
 use Rattle.meaning.specs.LazyLaws.{lazy_sound, OptionsKeep, OptionsRoot}
-use Rattle.meaning.specs.SliceOptions.{slice_start, lacking_by_number, slice_options_short, slice_options_growth, slice_options_wait, slice_options_stated, slice_options_sound}
+use Rattle.meaning.specs.SliceOptions.{slice_start, slice_options_short, slice_options_growth, slice_options_wait, slice_options_stated, slice_options_sound}
 use Rattle.meaning.proofs.SliceLaws.{along_slot, slot_enough, lacking_changed, slice_keeps, slice_apart, grow_at_place, grow_at_calm, grow_at_lasting, grow_at_untold, grow_at_accepted}
 use Rattle.meaning.proofs.LazyOptions.{limited_keeps, lazy_limited, lazy_keeps, started_sound, lazy_roots, lazy_accepted, lazy_waits}
 

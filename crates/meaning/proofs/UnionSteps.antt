@@ -2,8 +2,8 @@
 --   union_total   a union is total where its options are
 --   union_keeps   it keeps its meaning where they keep theirs
 
-use Rattle.std.proofs.Common.{◌≡◌, ℕ, zero, suc, ◌+◌, ◌-◌, ◌<◌, ◌≤◌, Bool, true, false, cond, ltb, ◌⊎◌, Some, None, Option, refl, ap, ◌∙◌, inl, inr, le_refl, arith}
-use mathlib.Core.Bool.{false≢true}
+use Rattle.std.proofs.Common.{◌≡◌, ℕ, zero, suc, ◌+◌, ◌-◌, ◌<◌, ◌≤◌, Bool, true, false, cond, ltb, ◌⊎◌, Some, None, Option, refl, ◌∙◌, inl, inr, le_refl, arith}
+use Rattle.std.proofs.lemmas.Bool.{false≢true}
 use Rattle.meaning.specs.Trees.{stays, Steps, meant, Simplifies, Ends, SimplifyKept, ComplicateKept, Total, Keeps}
 use Rattle.meaning.specs.PlaceLaws.{always, placed_total, placed_keeps}
 use Rattle.meaning.specs.TableLaws.{Apart, TableTotal}
@@ -12,7 +12,7 @@ use Rattle.meaning.specs.LazyLaws.{OptionsKeep}
 use Rattle.meaning.specs.Unions.{UnionTree, seek, went_down, with_options, union_simplify, union_complicate, union_home, bare_union, union_steps}
 use Rattle.meaning.specs.UnionLaws.{home_pick, UnionSound, union_sound}
 use Rattle.meaning.proofs.Joining.{everywhere}
-use Rattle.meaning.proofs.Walking.{Touched, touched_sound, simplify_touched, complicate_touched}
+use Rattle.meaning.proofs.Walking.{same_apart, apart_candidate, Touched, touched_sound, simplify_touched, complicate_touched}
 
 -- a union with other notes
 abbrev noting : {T : Type 0} → UnionTree T → Option ℕ → Bool → UnionTree T
@@ -28,9 +28,6 @@ module _ {T I : Type 0} {table : ℕ → Steps T I} (start : ℕ → T → T) (t
   pub union_total : Total (union_steps table start)
   union_total = placed_total (bare_union table start) (λ u. union_ends u u.prev_pick u.returned)
 
-apart_same : {S I : Type 0} (t : Steps S I) (sound : S → Type 0) (s : S) → Apart t sound s s
-apart_same t sound s = record { same_meant = refl; same_longest = refl; same_grown = refl; still_sound = λ is_sound. is_sound }
-
 apart_then : {S I : Type 0} {t : Steps S I} {sound : S → Type 0} {before then now : S} → Apart t sound before then → Apart t sound then now → Apart t sound before now
 apart_then first next = record {
   same_meant = next.same_meant ∙ first.same_meant;
@@ -38,9 +35,6 @@ apart_then first next = record {
   same_grown = next.same_grown ∙ first.same_grown;
   still_sound = λ is_sound. next.still_sound (first.still_sound is_sound);
 }
-
-apart_candidate : {S I : Type 0} {t : Steps S I} {sound : S → Type 0} {before now : S} → Apart t sound before now → t.candidate now ≡ t.candidate before
-apart_candidate apart = ap (λ m. m.candidate) apart.same_meant
 
 module _ {T I : Type 0} {table : ℕ → Steps T I} {start : ℕ → T → T} {sound : ℕ → ℕ → T → Type 0} (total : TableTotal table) (keep : OptionsKeep table start sound) where
   -- what seeking among n options from number low on leaves
@@ -67,7 +61,7 @@ module _ {T I : Type 0} {table : ℕ → Steps T I} {start : ℕ → T → T} {s
   }
 
   sought : (limit low n : ℕ) (s : T) → Sought limit low n s (seek table start low n s)
-  sought limit low zero s = record { still_sound = λ j is_sound. is_sound; above = λ j high. apart_same (table j) (sound limit j) s; found = λ e. absurd (false≢true e) }
+  sought limit low zero s = record { still_sound = λ j is_sound. is_sound; above = λ j high. same_apart (table j) (sound limit j) refl; found = λ e. absurd (false≢true e) }
   sought limit low (suc n) s = let k = low + n in sought_on limit low n s ((table k).grown (start k s)) refl (seek table start low n) (sought limit low n (start k s))
 
   abbrev union : Steps (UnionTree T) I

@@ -3,7 +3,8 @@
 --   vec_keeps   it keeps its meaning where they keep theirs
 
 use Rattle.std.proofs.Common.{◌≡◌, ℕ, ◌+◌, ◌<◌, ◌≤◌, Bool, true, false, cond, not, eqb, ltb, ◌⊎◌, List, length, drop, set, Some, None, Option, sym, refl, ap, ◌∙◌, inl, inr, le_refl, arith, length-set, get_or-set_other, get_or-set_same}
-use Rattle.std.proofs.lemmas.Bool.{and_parts, ltb-true, eqb-false, not-true}
+use Rattle.std.proofs.lemmas.Bool.{and_parts, ltb-true, eqb-false, not-true, cases_eq}
+use Rattle.std.proofs.lemmas.Grind.{get_or-set_at}
 use Rattle.meaning.specs.declared.collection.Shrink.{Shrink}
 use Rattle.meaning.specs.declared.collection.Shrink.TheVariants.{DeleteElement, ShrinkElement}
 use Rattle.meaning.specs.Trees.{Steps, meant, Simplifies, Complicates, Falls, Ends, SimplifyKept, ComplicateKept, Total, Keeps}
@@ -11,9 +12,9 @@ use Rattle.meaning.specs.PlaceLaws.{always, placed_total, placed_keeps}
 use Rattle.meaning.specs.TableLaws.{Standing, Apart, TableTotal, TableKeeps}
 use Rattle.meaning.specs.Vectors.{members, VecTree, joined, Walked, walk, deletable, deleted, walked, vec_simplify, complicated, vec_complicate, vec_home, bare_vector, vec_steps}
 use Rattle.meaning.specs.VectorLaws.{Ahead, Noted, VecSound, vec_sound}
-use Rattle.meaning.proofs.Included.{members_less, members_no_less, still_member, deleted_and_back}
+use Rattle.meaning.proofs.Included.{members_less, members_put, deleted_and_back}
 use Rattle.meaning.proofs.Joining.{everywhere, joined_same, joined_put, joined_puts, together_same, joined_fits}
-use Rattle.meaning.proofs.Walking.{Touched, touched_sound, touched_longest, complicate_touched, Walks, walks}
+use Rattle.meaning.proofs.Walking.{apart_candidate, Touched, touched_sound, touched_longest, complicate_touched, Walks, walks}
 
 -- a vector with another note
 abbrev noting : {T : Type 0} → VecTree T → Option Shrink → VecTree T
@@ -111,14 +112,17 @@ module _ {T I : Type 0} (table : ℕ → Steps T I) (sound : ℕ → T → Type 
 
   -- complicate, where the deleted element is a member again
   ahead_back : (shrink : Shrink) (included : List Bool) (i : ℕ) → Ahead shrink included → Ahead shrink (set included i true)
-  ahead_back (DeleteElement cursor) included i ahead = λ j past below. still_member included i j (ahead j past (rw length-set at below))
+  ahead_back (DeleteElement cursor) included i ahead = λ j past below. let within : j < length included = rw length-set at below in elim (cases_eq j i) [
+    | inl same ↦ get_or-set_at included i j true false same (omega (arith, same, within))
+    | inr other ↦ get_or-set_other included i j true false other ∙ ahead j past within
+  ]
   ahead_back (ShrinkElement cursor) included i ahead = tt
 
   put_back_sound : (v : VecTree T) (i : ℕ) → Sound v → Sound (record { elements = v.elements; included = set v.included i true; min_size = v.min_size; shrink = v.shrink; prev_shrink = None; longest = v.longest })
   put_back_sound v i is_sound =
       let enough = is_sound.enough in
-      let no_less = members_no_less v.included i in
-      with_included v i true v.shrink None is_sound (omega (arith, enough, no_less)) (ahead_back v.shrink v.included i is_sound.ahead) tt
+      let more = members_put v.included i in
+      with_included v i true v.shrink None is_sound (omega (arith, enough, more)) (ahead_back v.shrink v.included i is_sound.ahead) tt
 
   -- complicate, where the noted element was asked
   noted_if : (answer : Bool) (i : ℕ) (included : List Bool) → Noted (Some (ShrinkElement i)) included → Noted (cond answer (Some (ShrinkElement i)) None) included
@@ -131,7 +135,7 @@ module _ {T I : Type 0} (table : ℕ → Steps T I) (sound : ℕ → T → Type 
         (λ j below. touched_sound table sound touched j (is_sound.each j below)) (touched_longest table sound touched) is_sound.ahead (noted_if answer i v.included noted)
 
     others_shown : (j : ℕ) → (j ≡ i → ⊥) → shown s j ≡ shown v.elements j
-    others_shown j other = ap (λ m. m.candidate) (touched.apart j other).same_meant
+    others_shown j other = apart_candidate (touched.apart j other)
 
     complicated_means : (answer : Bool) → Complicates (meant (table i) v.elements) answer (meant (table i) s) →
         Complicates (meant vector (noting v (Some (ShrinkElement i)))) answer (meant vector (complicated v i (record { answer = answer; tree = s })).tree)

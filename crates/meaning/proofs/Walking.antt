@@ -1,7 +1,7 @@
 -- What a step of one tree of a table does to all of them, and what simplifying the members in turn does.
 
-use Rattle.std.proofs.Common.{◌≡◌, ℕ, suc, ◌<◌, Bool, true, false, List, [], ◌∷◌, length, get_or, drop, refl, ap, ◌∙◌, inl, inr}
-use mathlib.Core.Bool.{false≢true}
+use Rattle.std.proofs.Common.{◌≡◌, ℕ, suc, ◌<◌, Bool, true, false, List, [], ◌∷◌, length, get_or, drop, sym, refl, ap, ◌∙◌, subst, inl, inr}
+use Rattle.std.proofs.lemmas.Bool.{false≢true}
 use Rattle.meaning.specs.Trees.{Steps, meant, Simplifies}
 use Rattle.meaning.specs.TableLaws.{Apart, TableKeeps}
 use Rattle.meaning.specs.Vectors.{Walked, go_on, walk}
@@ -19,9 +19,16 @@ after_false t first then now false still step = (
   ],
 )
 
--- a tree that a call left apart is as after a false simplify
+-- a tree that was not changed is apart, and one that a call left apart shows what it did
+pub same_apart : {S I : Type 0} (t : Steps S I) (sound : S → Type 0) {before now : S} → now ≡ before → Apart t sound before now
+same_apart t sound e = record { same_meant = ap (meant t) e; same_longest = ap t.longest e; same_grown = ap t.grown e; still_sound = subst sound (sym e) }
+
+pub apart_candidate : {S I : Type 0} {t : Steps S I} {sound : S → Type 0} {before now : S} → Apart t sound before now → t.candidate now ≡ t.candidate before
+apart_candidate apart = ap (λ m. m.candidate) apart.same_meant
+
+-- it is as after a false simplify
 apart_false : {S I : Type 0} {t : Steps S I} {sound : S → Type 0} {before now : S} → Apart t sound before now → Simplifies (meant t before) false (meant t now)
-apart_false apart = (ap (λ m. m.candidate) apart.same_meant, inl (ap (λ m. m.home) apart.same_meant))
+apart_false apart = (apart_candidate apart, inl (ap (λ m. m.home) apart.same_meant))
 
 module _ {T I : Type 0} (table : ℕ → Steps T I) (sound : ℕ → T → Type 0) where
   -- a call on tree number i alone, which keeps its soundness and its longest
