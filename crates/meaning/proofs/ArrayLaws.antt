@@ -17,8 +17,8 @@ use Rattle.meaning.specs.TableLaws.{Standing, TableTotal, TableKeeps, TableRoots
 use Rattle.meaning.specs.Vectors.{VecTree, Walked, walked, complicated, grow_from, most_items}
 use Rattle.meaning.specs.Arrays.{ArrayTree, as_vector, array_walked, array_complicated, array_complicate, bare_array, array_steps, array_grown, array_grows, array_stated, array_short, array_growth, array_sound}
 use Rattle.meaning.proofs.VectorSteps.{vector, Sound, with_elements, vector_keeps, table_standing}
-use Rattle.meaning.proofs.Growing.{Given}
-use Rattle.meaning.proofs.Elements.{slots_and_room, Elements, all_sound, Kept, Done, Failed, elements_given}
+use Rattle.meaning.proofs.Growing.{Given, Kept}
+use Rattle.meaning.proofs.Elements.{slots_and_room, Elements, all_sound, Done, Failed, elements_given}
 
 -- an array with another note
 abbrev noting : {T : Type 0} → ArrayTree T → Option ℕ → ArrayTree T
@@ -88,7 +88,7 @@ module _ {T I P : Type 0} {table : ℕ → Steps T I} {sound : ℕ → T → Typ
 
   module _ (n longest : ℕ) (r : RunnerState X) (a : ArrayTree T) where
     abbrev ArrayGiven : Outcome X (Place (ArrayTree T)) → Type 0
-    ArrayGiven o = Grew (array_steps table) (array_sound table sound) longest o.place o.answer × Kept roots p X w r a.elements o.runner o.place.tree.elements
+    ArrayGiven o = Grew (array_steps table) (array_sound table sound) longest o.place o.answer × Kept short r a.elements o.runner o.place.tree.elements
 
     grown_given : stated p n ≤ longest → (o : Outcome X T) (answer : Grown) → Given (g p X w) n (Done roots p X w r a.elements) (Failed roots p X w r a.elements) n o answer → ArrayGiven (array_grown longest n a o answer)
     grown_given fits o (Ok _) (elements, kept) = ((grown_rooted n longest o.place fits elements, refl), kept)

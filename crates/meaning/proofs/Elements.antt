@@ -17,7 +17,7 @@ use Rattle.meaning.specs.Vectors.{all_of, grow_from, most_items, vec_stated}
 use Rattle.meaning.specs.VectorLaws.{Ahead, VecSound}
 use Rattle.meaning.proofs.Included.{all_length, all_members, all_there}
 use Rattle.meaning.proofs.Joining.{everywhere, together_same}
-use Rattle.meaning.proofs.Growing.{neither, Given, given_from}
+use Rattle.meaning.proofs.Growing.{neither, Given, given_from, Kept, unchanged}
 
 -- slots enough for n elements, and no more items than may be stated
 pub slots_and_room : {T : Type 0} (short : ℕ → T → Bool) (stated : ℕ → ℕ) (n : ℕ) (s : T) → cond (short n s) true (ltb most_items (stated n)) ≡ false → (short n s ≡ false) × (stated n ≤ vec_stated stated n)
@@ -65,23 +65,16 @@ module _ {T I P : Type 0} {table : ℕ → Steps T I} {sound : ℕ → T → Typ
     room = let room = elements.room in rw (all_length n) (omega arith);
   }
 
-  -- what every growth keeps, accepted or not, from the runner and table that it starts with
+  -- from the runner and table that a growth starts with
   module _ (r : RunnerState X) (s : T) where
-    pub record Kept (r' : RunnerState X) (s' : T) : Type 0 where
-      pub calm : r'.rejections ≤ r.rejections
-      pub lasting : (q : P) (n : ℕ) → short q n s' ≡ short q n s
-
-    pub unchanged : Kept r s
-    unchanged = record { calm = le_refl r.rejections; lasting = λ q n. refl }
-
-    kept_on : (i : ℕ) (r' : RunnerState X) (s' : T) → Kept r' s' → Kept (g p X w i r' s').runner (g p X w i r' s').place
+    kept_on : (i : ℕ) (r' : RunnerState X) (s' : T) → Kept short r s r' s' → Kept short r s (g p X w i r' s').runner (g p X w i r' s').place
     kept_on i r' s' kept = let before = kept.calm in let here = roots.calm p X w i r' s' in record { calm = omega arith; lasting = λ q n. roots.lasting p q X w n i r' s' ∙ kept.lasting q n }
 
     abbrev pub Done : ℕ → RunnerState X → T → Type 0
-    Done i r' s' = Elements i s' × Kept r' s'
+    Done i r' s' = Elements i s' × Kept short r s r' s'
 
     abbrev pub Failed : RunnerState X → T → Cause → Type 0
-    Failed r' s' cause = (cause ≡ Slots → ⊥) × Kept r' s'
+    Failed r' s' cause = (cause ≡ Slots → ⊥) × Kept short r s r' s'
 
     -- n elements that grow in order, where there are slots enough for the highest size
     module _ (high : ℕ) (enough : short p high s ≡ false) (n : ℕ) (small : n ≤ high) where
@@ -91,4 +84,4 @@ module _ {T I P : Type 0} {table : ℕ → Steps T I} {sound : ℕ → T → Typ
           (λ fault e. (roots.untold p X w high i (omega arith) r' s' fault (kept.lasting p high ∙ enough) e, kept_on i r' s' kept))
 
       pub elements_given : Given (g p X w) n Done Failed n (grow_from (g p X w) n 0 r s) (grow_from (g p X w) n 0 r s).answer
-      elements_given = given_from (g p X w) n Done Failed element_given n 0 (omega arith) r s (no_elements s, unchanged)
+      elements_given = given_from (g p X w) n Done Failed element_given n 0 (omega arith) r s (no_elements s, unchanged short r s)

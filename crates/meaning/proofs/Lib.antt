@@ -35,7 +35,6 @@ pub mod PairOptionLaws
 mod Picking
 pub mod UnionSteps
 pub mod UnionGrowth
-pub mod SliceUnion
 mod UnionExamples
 mod PairUnionExamples
 mod ShutFuses

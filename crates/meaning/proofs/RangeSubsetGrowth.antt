@@ -6,6 +6,7 @@
 use Rattle.std.proofs.Common.{◌≡◌, ℕ, zero, suc, ◌+◌, ◌-◌, ◌<◌, ◌≤◌, false, cond, eqb, List, [], ◌∷◌, ◌++◌, length, get_or, Ok, Err, sym, refl, ap, ◌∙◌, subst, inl, inr, le_refl, arith, length-append}
 use Rattle.std.proofs.lemmas.List.{get_or_append_left, get_or_at}
 use Rattle.std.proofs.lemmas.Bool.{cond_both, cases_eq, eq-eqb, ne_eqb, eqb-true, eqb-false}
+use Rattle.std.proofs.lemmas.Bool.Decides.{nat_tests}
 use Rattle.draws.specs.Draws.{drawn}
 use Rattle.draws.specs.Runners.{RunnerState, advanced}
 use Rattle.draws.specs.Sources.{Words, word}
@@ -23,30 +24,17 @@ use Rattle.meaning.proofs.SetGrowth.{set_minimum, set_roots}
 
 -- places i and j have changed numbers
 module _ (i j : ℕ) where
-  -- what holds of both places and of every other
-  exchanged_cases : (Q : ℕ → ℕ → Type 0) → Q i j → Q j i → ((k : ℕ) → (k ≡ i → ⊥) → (k ≡ j → ⊥) → Q k k) → (k : ℕ) → Q k (exchanged i j k)
-  exchanged_cases Q first second others k = cond_both (eqb k i) j (cond (eqb k j) i k) (Q k) (λ is-i. subst (λ (n : ℕ). Q n j) (sym (eqb-true k i is-i)) first) not_first
-    where
-      not_first : eqb k i ≡ false → Q k (cond (eqb k j) i k)
-      not_first not-i = cond_both (eqb k j) i k (Q k) (λ is-j. subst (λ (n : ℕ). Q n i) (sym (eqb-true k j is-j)) second) (λ not-j. others k (eqb-false k i not-i) (eqb-false k j not-j))
-
   exchanged_first : exchanged i j i ≡ j
-  exchanged_first = rw (eq-eqb i i refl) refl
-
-  exchanged_second : exchanged i j j ≡ i
-  exchanged_second = elim (cases_eq j i) [
-    | inl same ↦ rw (eq-eqb j i same) same
-    | inr other ↦ rw (ne_eqb j i other) (rw (eq-eqb j j refl) refl)
-  ]
+  exchanged_first = grind (arith, nat_tests)
 
   exchanged_else : (k : ℕ) → (k ≡ i → ⊥) → (k ≡ j → ⊥) → exchanged i j k ≡ k
-  exchanged_else k not-i not-j = rw (ne_eqb k i not-i) (rw (ne_eqb k j not-j) refl)
+  exchanged_else k not-i not-j = grind (arith, nat_tests)
 
   exchanged_twice : (k : ℕ) → exchanged i j (exchanged i j k) ≡ k
-  exchanged_twice = exchanged_cases (λ k now. exchanged i j now ≡ k) exchanged_second exchanged_first exchanged_else
+  exchanged_twice k = grind (arith, nat_tests)
 
   exchanged_below : (n : ℕ) → i < n → j < n → (k : ℕ) → k < n → exchanged i j k < n
-  exchanged_below n i-below j-below = exchanged_cases (λ k now. k < n → now < n) (λ _. j-below) (λ _. i-below) (λ k _ _ below. below)
+  exchanged_below n i-below j-below k below = grind (arith, nat_tests)
 
 -- i numbers of a range, chosen by shuffling: they stand at its first places, and it still has each of its numbers once
 record Shuffled (start count i : ℕ) (at : ℕ → ℕ) (items : List ℕ) : Type 0 where

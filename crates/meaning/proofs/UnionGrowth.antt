@@ -17,6 +17,7 @@ use Rattle.meaning.specs.Lazies.{TableWait}
 use Rattle.meaning.specs.LazyLaws.{OptionsRoot}
 use Rattle.meaning.specs.Unions.{pick_for, UnionTree, union_steps, grow_picked, union_grown, union_drawn, greatest, union_stated, union_short, union_grows, union_growth}
 use Rattle.meaning.specs.UnionLaws.{union_sound}
+use Rattle.meaning.proofs.Growing.{Kept, unchanged}
 use Rattle.meaning.proofs.Joining.{everywhere}
 use Rattle.meaning.proofs.Picking.{picked_below, none_greater}
 
@@ -25,12 +26,7 @@ module _ {T I P : Type 0} {table : ℕ → Steps T I} {sound : ℕ → ℕ → T
   abbrev picking : (n i : ℕ) → Grows X T
   picking = grow_picked w (grow p X w) (wait p X w)
 
-  -- what every growth keeps, accepted or not
-  record Kept (r : RunnerState X) (s : T) (r' : RunnerState X) (s' : T) : Type 0 where
-    calm : r'.rejections ≤ r.rejections
-    lasting : (q : P) (n : ℕ) → short q n s' ≡ short q n s
-
-  picking_kept : (n i : ℕ) (r : RunnerState X) (s : T) → Kept r s (picking n i r s).runner (picking n i r s).place
+  picking_kept : (n i : ℕ) (r : RunnerState X) (s : T) → Kept short r s (picking n i r s).runner (picking n i r s).place
   picking_kept zero i r s = record { calm = roots.calm p X w i r s; lasting = λ q m. roots.lasting p q X w m i r s }
   picking_kept (suc n) i r s =
       let later = picking_kept n (suc i) (parted w r) (wait p X w i (cloned w r) s) in
@@ -78,15 +74,15 @@ module _ {T I P : Type 0} {table : ℕ → Steps T I} {sound : ℕ → ℕ → T
 
     -- what a union's growth gives and keeps, after the draw of its pick
     abbrev UnionGrew : RunnerState X → T → Outcome X (Place (UnionTree T)) → Type 0
-    UnionGrew r s o = Grew (union_steps table start) (union_sound table sound) limit o.place o.answer × Kept r s o.runner o.place.tree.options
+    UnionGrew r s o = Grew (union_steps table start) (union_sound table sound) limit o.place o.answer × Kept short r s o.runner o.place.tree.options
 
-    grown_given : (pick : ℕ) (u : UnionTree T) (r : RunnerState X) (o : Outcome X T) (answer : Grown) → PickGrew pick o.place answer → Kept r u.options o.runner o.place → UnionGrew r u.options (union_grown limit pick u o answer)
+    grown_given : (pick : ℕ) (u : UnionTree T) (r : RunnerState X) (o : Outcome X T) (answer : Grown) → PickGrew pick o.place answer → Kept short r u.options o.runner o.place → UnionGrew r u.options (union_grown limit pick u o answer)
     grown_given pick u r o (Ok _) (root, below) kept = ((picked_rooted pick o.place root below, refl), kept)
     grown_given pick u r o (Err fault) not_slots kept = ((not_slots, refl), kept)
 
     drawn_given : (weights : List ℕ) (u : UnionTree T) (r : RunnerState X) (d : Result ℕ DrawFault) → ((draw : ℕ) → d ≡ Ok draw → pick_for weights draw < count) → short p count u.options ≡ false →
         UnionGrew r u.options (union_drawn w (grow p X w) (wait p X w) limit weights u r d)
-    drawn_given weights u r (Err fault) range enough = ((draw_is_not_slots, refl), record { calm = le_refl r.rejections; lasting = λ q n. refl })
+    drawn_given weights u r (Err fault) range enough = ((draw_is_not_slots, refl), unchanged short r u.options)
     drawn_given weights u r (Ok draw) range enough =
         let pick = pick_for weights draw in
         let o = picking pick 0 r u.options in
@@ -104,7 +100,7 @@ union_roots {T} {I} {P} {Q} {table} {sound} {short} {grow} {wait} {stated} start
   where
     given : (q : Q) (X : Type 0) (w : Words X) (r : RunnerState X) (u : Place (UnionTree T)) → union_short under weights short q u ≡ false →
         (let o : Outcome X (Place (UnionTree T)) = union_grows under weights stated grow wait q X w r u in
-        Grew (union_steps table start) (union_sound table sound) (union_stated under weights stated q) o.place o.answer × Kept start roots (under q) X w (advanced w r) u.tree.options o.runner o.place.tree.options)
+        Grew (union_steps table start) (union_sound table sound) (union_stated under weights stated q) o.place o.answer × Kept short (advanced w r) u.tree.options o.runner o.place.tree.options)
     given q X w r u enough =
         let count = length (weights q) in
         let draw = drawn 0 (sum (weights q) - 1) (word w r.source) in

@@ -17,8 +17,8 @@ use Rattle.meaning.specs.TableLaws.{TableRoots}
 use Rattle.meaning.specs.Vectors.{all_of, VecTree, vec_steps, grow_from, vec_grown, vec_sized, most_items, vec_stated, vec_short, vec_growth}
 use Rattle.meaning.specs.VectorLaws.{vec_sound}
 use Rattle.meaning.proofs.Drawing.{drawn_range}
-use Rattle.meaning.proofs.Growing.{Given}
-use Rattle.meaning.proofs.Elements.{slots_and_room, Elements, all_sound, Kept, unchanged, Done, Failed, elements_given}
+use Rattle.meaning.proofs.Growing.{Given, Kept, unchanged}
+use Rattle.meaning.proofs.Elements.{slots_and_room, Elements, all_sound, Done, Failed, elements_given}
 
 rises : (f : ℕ → ℕ) → ((n : ℕ) → f n ≤ f (suc n)) → (more n m : ℕ) → n + more ≡ m → f n ≤ f m
 rises f rising zero n m e = let same : f n ≡ f m = ap f (omega arith) in omega arith
@@ -34,7 +34,7 @@ module _ {T I P : Type 0} {table : ℕ → Steps T I} {sound : ℕ → T → Typ
   -- what a vector's growth gives and keeps, after the draw of its size
   module _ (low high longest : ℕ) (fits : stated p high ≤ longest) (r : RunnerState X) (v : VecTree T) (enough : short p high v.elements ≡ false) where
     abbrev VecGiven : Outcome X (Place (VecTree T)) → Type 0
-    VecGiven o = Grew (vec_steps table) (vec_sound table sound) longest o.place o.answer × Kept roots p X w r v.elements o.runner o.place.tree.elements
+    VecGiven o = Grew (vec_steps table) (vec_sound table sound) longest o.place o.answer × Kept short r v.elements o.runner o.place.tree.elements
 
     grown_given : (n : ℕ) → low ≤ n → n ≤ high → (o : Outcome X T) (answer : Grown) → Given (g p X w) n (Done roots p X w r v.elements) (Failed roots p X w r v.elements) n o answer → VecGiven (vec_grown low longest n v o answer)
     grown_given n large small o (Ok _) (elements, kept) =
@@ -43,7 +43,7 @@ module _ {T I P : Type 0} {table : ℕ → Steps T I} {sound : ℕ → T → Typ
     grown_given n large small o (Err fault) (not_slots, kept) = ((not_slots, refl), kept)
 
     sized_given : (d : Result ℕ DrawFault) → ((n : ℕ) → d ≡ Ok n → (low ≤ n) × (n ≤ high)) → VecGiven (vec_sized (g p X w) low longest v r d)
-    sized_given (Err fault) range = ((draw_is_not_slots, refl), unchanged roots p X w r v.elements)
+    sized_given (Err fault) range = ((draw_is_not_slots, refl), unchanged short r v.elements)
     sized_given (Ok n) range =
         let (large, small) = range n refl in
         let o = grow_from (g p X w) n 0 r v.elements in
@@ -68,7 +68,7 @@ vec_roots {T} {I} {P} {Q} {table} {sound} {short} {g} {stated} under low high si
     sized q X w r v = vec_sized (g (under q) X w) (low q) (longest q) v.tree (advanced w r) (drawn (low q) (high q) (word w r.source))
 
     given : (q : Q) (X : Type 0) (w : Words X) (r : RunnerState X) (v : Place (VecTree T)) → too_short q v ≡ false →
-        (let o : Outcome X (Place (VecTree T)) = sized q X w r v in Grew (vec_steps table) (vec_sound table sound) (longest q) o.place o.answer × Kept roots (under q) X w (advanced w r) v.tree.elements o.runner o.place.tree.elements)
+        (let o : Outcome X (Place (VecTree T)) = sized q X w r v in Grew (vec_steps table) (vec_sound table sound) (longest q) o.place o.answer × Kept short (advanced w r) v.tree.elements o.runner o.place.tree.elements)
     given q X w r v enough =
         let (slots, room) = slots_and_room (short (under q)) (stated (under q)) (high q) v.tree.elements enough in
         sized_given roots (under q) X w (low q) (high q) (longest q) room (advanced w r) v.tree slots
