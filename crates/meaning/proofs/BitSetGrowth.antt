@@ -26,10 +26,6 @@ Sound low cursor longest included = SetSound (bit_set low cursor longest include
 bits_sound : (low cursor longest : ℕ) (included : List Bool) → low ≤ members included → members included ≤ longest → Sound low cursor longest included
 bits_sound low cursor longest included enough room = record { enough = enough; distinct = λ i j _ _ same. same; room = room }
 
-members_if_more : (yes : Bool) (bs : List Bool) (i : ℕ) → members (cond yes (set bs i true) bs) ≤ suc (members bs)
-members_if_more true bs i = (members_put bs i).1
-members_if_more false bs i = omega arith
-
 -- the m bits from number i on lie within the set, and no bit from there on is included
 record Clear (m i : ℕ) (bs : List Bool) : Type 0 where
   inside : i + m ≤ length bs
@@ -78,7 +74,7 @@ module _ {X : Type 0} (w : Words X) (low cursor longest : ℕ) where
 flips : {X : Type 0} (w : Words X) (cursor longest n i : ℕ) (r : RunnerState X) (bs : List Bool) → members bs + n ≤ longest → Draws (Sound 0 cursor longest) r.rejections (flip_from w n i r bs)
 flips w cursor longest zero i r bs room = (bits_sound 0 cursor longest bs (omega arith) (omega (arith, room)), le_refl r.rejections)
 flips w cursor longest (suc n) i r bs room = drawn_on (Sound 0 cursor longest) (answered (word w r.source)) (advanced w r) bs _
-    (λ yes drew. let more = members_if_more yes bs i in flips w cursor longest n (suc i) (advanced w r) (cond yes (set bs i true) bs) (omega (arith, more, room)))
+    (λ yes drew. let more = cond_both yes (set bs i true) bs (λ now. members now ≤ suc (members bs)) (λ taken. (members_put bs i).1) (λ passed. omega arith) in flips w cursor longest n (suc i) (advanced w r) (cond yes (set bs i true) bs) (omega (arith, more, room)))
 
 module _ {X : Type 0} (w : Words X) (min max size : ℕ) (r : RunnerState X) where
   flipped_sound : Draws (Sound 0 min (max - min)) r.rejections (flipped w min max size r)

@@ -1,14 +1,14 @@
 -- What is joined by number, where one number has another value.
 
-use Rattle.std.proofs.Common.{◌≡◌, ℕ, zero, suc, ◌+◌, ◌<◌, ◌≤◌, Bool, true, false, cond, List, [], ◌∷◌, length, sym, refl, ap, ◌∙◌, subst, arith, length-append}
-use mathlib.Core.Path.{fun_ext}
-use native.Mathlib.Decide.{ℕ_discrete}
+use Rattle.std.proofs.Common.{◌≡◌, ℕ, zero, suc, ◌+◌, ◌<◌, ◌≤◌, Bool, List, [], ◌∷◌, length, sym, refl, ap, ◌∙◌, subst, inl, inr, arith, length-append}
+use Rattle.std.proofs.Math.Path.{fun_ext}
+use Rattle.std.proofs.lemmas.Bool.{cond_both, cases_eq}
 use Rattle.meaning.specs.Vectors.{joined, put}
 use Rattle.meaning.specs.TableLaws.{together}
 
 -- what holds of number k and of every other
 pub everywhere : (P : ℕ → Type 0) (k : ℕ) → P k → ((j : ℕ) → (j ≡ k → ⊥) → P j) → (j : ℕ) → P j
-everywhere P k here others j = elim (ℕ_discrete j k) [ yes e ↦ subst P (sym e) here | no other ↦ others j other ]
+everywhere P k here others j = elim (cases_eq j k) [ inl e ↦ subst P (sym e) here | inr other ↦ others j other ]
 
 put_here : {A : Type 0} (k : ℕ) (a : A) (f : ℕ → A) → put k a f k ≡ a
 put_here zero a f = refl
@@ -36,14 +36,10 @@ together_same f h (suc n) same =
     let rest = together_same f h n (λ j below. same j (omega arith)) in
     omega arith
 
-if_fits : {I : Type 0} (b : Bool) (xs : List I) (n : ℕ) → length xs ≤ n → length (cond b xs []) ≤ n
-if_fits true xs n fits = fits
-if_fits false xs n fits = omega arith
-
 -- lists that each fit their number fit all numbers together
 pub joined_fits : {I : Type 0} (f : ℕ → List I) (most : ℕ → ℕ) (n : ℕ) → ((j : ℕ) → j < n → length (f j) ≤ most j) → (i : ℕ) (bs : List Bool) → i + length bs ≡ n → length (joined f i bs) + together most i ≤ together most n
 joined_fits f most n fits i [] e = let all : together most i ≡ together most n = ap (together most) (omega arith) in omega arith
 joined_fits f most n fits i (b ∷ bs) e =
-    let here = if_fits b (f i) (most i) (fits i (omega (arith, e))) in
+    let here = cond_both b (f i) [] (λ xs. length xs ≤ most i) (λ member. fits i (omega (arith, e))) (λ none. omega arith) in
     let rest = joined_fits f most n fits (suc i) bs (omega (arith, e)) in
     simp length-append (omega (arith, here, rest))

@@ -2,7 +2,7 @@
 --   set_total   at every state
 --   set_keeps   a sound set keeps its meaning
 
-use Rattle.std.proofs.Common.{◌≡◌, ℕ, zero, suc, ◌<◌, ◌≤◌, Bool, true, false, cond, ltb, List, [], ◌∷◌, length, get_or, drop, Some, None, Option, refl, ap, inl, inr, le_refl, add-suc, suc-add, arith, length-append, length-set}
+use Rattle.std.proofs.Common.{◌≡◌, ℕ, zero, suc, ◌<◌, ◌≤◌, Bool, true, false, ltb, List, [], ◌∷◌, length, get_or, drop, Some, None, Option, refl, ap, inl, inr, le_refl, add-suc, suc-add, arith, length-set}
 use Rattle.std.proofs.lemmas.Bool.{cond_both, ltb-true}
 use Rattle.meaning.specs.Trees.{Stepped, Steps, stays, Ends, SimplifyKept, ComplicateKept, Total, Keeps}
 use Rattle.meaning.specs.PlaceLaws.{always, placed_total, placed_keeps}
@@ -11,17 +11,11 @@ use Rattle.meaning.specs.SetLaws.{SetSound, set_sound}
 use Rattle.meaning.specs.Vectors.{members, joined}
 use Rattle.meaning.proofs.Included.{members_less, members_put, deleted_and_back}
 
-one_item : {I : Type 0} (b : Bool) (x : I) → length (cond b (x ∷ []) []) ≡ cond b 1 0
-one_item true x = refl
-one_item false x = refl
-
 -- a set shows an item for each of its members
 pub named_length : {I : Type 0} (item : ℕ → I) (i : ℕ) (bs : List Bool) → length (joined (λ i. item i ∷ []) i bs) ≡ members bs
 named_length item i [] = refl
-named_length item i (b ∷ bs) =
-    let here = one_item b (item i) in
-    let rest = named_length item (suc i) bs in
-    simp length-append (omega (arith, here, rest))
+named_length item i (true ∷ bs) = let rest = named_length item (suc i) bs in omega arith
+named_length item i (false ∷ bs) = let rest = named_length item (suc i) bs in omega arith
 
 put_back_no_less : (bs : List Bool) (last : Option ℕ) → members bs ≤ members (with_noted bs last)
 put_back_no_less bs None = le_refl (members bs)

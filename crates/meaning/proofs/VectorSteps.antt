@@ -3,7 +3,7 @@
 --   vec_keeps   it keeps its meaning where they keep theirs
 
 use Rattle.std.proofs.Common.{◌≡◌, ℕ, ◌+◌, ◌<◌, ◌≤◌, Bool, true, false, cond, not, eqb, ltb, ◌⊎◌, List, length, drop, set, Some, None, Option, sym, refl, ap, ◌∙◌, inl, inr, le_refl, arith, length-set, get_or-set_other, get_or-set_same}
-use Rattle.std.proofs.lemmas.Bool.{and_parts, ltb-true, eqb-false, not-true, cases_eq}
+use Rattle.std.proofs.lemmas.Bool.{cond_both, and_parts, ltb-true, eqb-false, not-true}
 use Rattle.std.proofs.lemmas.Grind.{get_or-set_at}
 use Rattle.meaning.specs.declared.collection.Shrink.{Shrink}
 use Rattle.meaning.specs.declared.collection.Shrink.TheVariants.{DeleteElement, ShrinkElement}
@@ -112,10 +112,7 @@ module _ {T I : Type 0} (table : ℕ → Steps T I) (sound : ℕ → T → Type 
 
   -- complicate, where the deleted element is a member again
   ahead_back : (shrink : Shrink) (included : List Bool) (i : ℕ) → Ahead shrink included → Ahead shrink (set included i true)
-  ahead_back (DeleteElement cursor) included i ahead = λ j past below. let within : j < length included = rw length-set at below in elim (cases_eq j i) [
-    | inl same ↦ get_or-set_at included i j true false same (omega (arith, same, within))
-    | inr other ↦ get_or-set_other included i j true false other ∙ ahead j past within
-  ]
+  ahead_back (DeleteElement cursor) included i ahead = λ j past below. grind (arith, length-set, get_or-set_at, get_or-set_other, ahead)
   ahead_back (ShrinkElement cursor) included i ahead = tt
 
   put_back_sound : (v : VecTree T) (i : ℕ) → Sound v → Sound (record { elements = v.elements; included = set v.included i true; min_size = v.min_size; shrink = v.shrink; prev_shrink = None; longest = v.longest })
@@ -125,14 +122,10 @@ module _ {T I : Type 0} (table : ℕ → Steps T I) (sound : ℕ → T → Type 
       with_included v i true v.shrink None is_sound (omega (arith, enough, more)) (ahead_back v.shrink v.included i is_sound.ahead) tt
 
   -- complicate, where the noted element was asked
-  noted_if : (answer : Bool) (i : ℕ) (included : List Bool) → Noted (Some (ShrinkElement i)) included → Noted (cond answer (Some (ShrinkElement i)) None) included
-  noted_if true i included noted = noted
-  noted_if false i included noted = tt
-
   module _ (v : VecTree T) (i : ℕ) (s : T) (touched : Touched table sound i v.elements s) where
     complicated_sound : (answer : Bool) → Sound v → Noted (Some (ShrinkElement i)) v.included → Sound (complicated v i (record { answer = answer; tree = s })).tree
     complicated_sound answer is_sound noted = with_elements v s v.shrink (cond answer (Some (ShrinkElement i)) None) is_sound
-        (λ j below. touched_sound table sound touched j (is_sound.each j below)) (touched_longest table sound touched) is_sound.ahead (noted_if answer i v.included noted)
+        (λ j below. touched_sound table sound touched j (is_sound.each j below)) (touched_longest table sound touched) is_sound.ahead (cond_both answer (Some (ShrinkElement i)) None (λ last. Noted last v.included) (λ goes. noted) (λ ends. tt))
 
     others_shown : (j : ℕ) → (j ≡ i → ⊥) → shown s j ≡ shown v.elements j
     others_shown j other = apart_candidate (touched.apart j other)
