@@ -3,7 +3,7 @@
 --   sampled_roots   a sampled bit set has as many members as were drawn
 --   sampled_minimum its fewest members are its lowest size
 
-use Rattle.std.proofs.Common.{◌≡◌, ℕ, zero, suc, ◌+◌, ◌-◌, ◌^◌, ◌<◌, ◌≤◌, Bool, true, false, cond, ltb, List, length, get_or, set, replicate, Ok, ◌∙◌, le_refl, arith, length-set, get_or-set_other}
+use Rattle.std.proofs.Common.{◌≡◌, ℕ, zero, suc, ◌+◌, ◌-◌, ◌^◌, ◌<◌, ◌≤◌, Bool, true, false, cond, ltb, List, length, get_or, set, replicate, Ok, le_refl, arith, length-set, get_or-set_other}
 use Rattle.std.proofs.lemmas.List.{length-replicate, get_or-replicate}
 use Rattle.std.proofs.lemmas.Bool.{cond_both, ltb-false}
 use Rattle.draws.specs.Draws.{drawn, answered}
@@ -32,12 +32,7 @@ record Clear (m i : ℕ) (bs : List Bool) : Type 0 where
   none : (j : ℕ) → i ≤ j → j < length bs → get_or bs j false ≡ false
 
 taken_clear : (m i : ℕ) (bs : List Bool) → Clear (suc m) i bs → Clear m (suc i) (set bs i true)
-taken_clear m i bs clear =
-    let inside = clear.inside in
-    record {
-      inside = rw length-set (omega (arith, inside));
-      none = λ j past below. get_or-set_other bs i j true false (λ e. omega (arith, e, past)) ∙ clear.none j (omega (arith, past)) (rw length-set at below);
-    }
+taken_clear m i bs clear = let inside = clear.inside in record { inside = rw length-set (omega (arith, inside)); none = λ j past below. grind (arith, length-set, get_or-set_other, clear.none j) }
 
 passed_clear : (m i : ℕ) (bs : List Bool) → Clear (suc m) i bs → Clear m (suc i) bs
 passed_clear m i bs clear = let inside = clear.inside in record { inside = omega (arith, inside); none = λ j past below. clear.none j (omega (arith, past)) below }

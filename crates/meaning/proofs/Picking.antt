@@ -1,6 +1,6 @@
 -- The weighted pick: a draw below the sum of the weights picks one of the options.
 
-use Rattle.std.proofs.Common.{◌≡◌, ℕ, zero, suc, ◌+◌, ◌-◌, ◌^◌, ◌<◌, ◌≤◌, Bool, true, false, cond, leb, List, [], ◌∷◌, length, Ok, sum, count_by, Option, refl, ap, inl, inr, arith}
+use Rattle.std.proofs.Common.{◌≡◌, ℕ, zero, suc, ◌+◌, ◌-◌, ◌^◌, ◌<◌, ◌≤◌, Bool, true, false, cond, leb, List, [], ◌∷◌, length, Ok, sum, count_by, Option, refl, ap, inl, inr, le_trans, arith}
 use native.Mathlib.Nat.{le-max_left, le-max_right}
 use Rattle.std.proofs.lemmas.List.Sums.{sum_by-cons, count_by-le-length}
 use Rattle.std.proofs.lemmas.Bool.{leb-true, cases_eq}
@@ -41,10 +41,7 @@ picked_below weights some few word draw e =
 -- none of the first n states more than the greatest
 pub none_greater : (f : ℕ → ℕ) (n i : ℕ) → i < n → f i ≤ greatest f n
 none_greater f zero i low = absurd (omega (arith, low))
-none_greater f (suc n) i low =
-    let before = le-max_left (greatest f n) (f n) in
-    let last = le-max_right (greatest f n) (f n) in
-    elim (cases_eq i n) [
-      | inl same ↦ let here : f i ≡ f n = ap f same in omega (arith, last, here)
-      | inr other ↦ let rest = none_greater f n i (omega (arith, low, other)) in omega (arith, before, rest)
-    ]
+none_greater f (suc n) i low = elim (cases_eq i n) [
+  | inl same ↦ rw same (le-max_right (greatest f n) (f n))
+  | inr other ↦ le_trans (none_greater f n i (omega (arith, low, other))) (le-max_left (greatest f n) (f n))
+]

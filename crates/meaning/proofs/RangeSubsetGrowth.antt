@@ -3,9 +3,8 @@
 --   subset_inside  they lie within the range
 --   subset_minimum its fewest members are its lowest size
 
-use Rattle.std.proofs.Common.{◌≡◌, ℕ, zero, suc, ◌+◌, ◌-◌, ◌<◌, ◌≤◌, false, List, [], ◌∷◌, ◌++◌, length, get_or, Ok, Err, sym, refl, ap, ◌∙◌, subst, inl, inr, le_refl, arith, length-append}
-use Rattle.std.proofs.lemmas.List.{get_or_append_left, get_or_at}
-use Rattle.std.proofs.lemmas.Bool.{cases_eq}
+use Rattle.std.proofs.Common.{◌≡◌, ℕ, zero, suc, ◌+◌, ◌-◌, ◌<◌, ◌≤◌, false, List, [], ◌∷◌, ◌++◌, length, get_or, Ok, Err, sym, refl, ap, ◌∙◌, subst, le_refl, arith, length-append}
+use Rattle.std.proofs.lemmas.List.{get_or_append_left, get_or_push}
 use Rattle.std.proofs.lemmas.Bool.Decides.{nat_tests}
 use Rattle.draws.specs.Draws.{drawn}
 use Rattle.draws.specs.Runners.{RunnerState, advanced}
@@ -56,10 +55,7 @@ one_more start count i j at items from below shuffled =
     let all = shuffled.all in
     record {
       all = simp length-append (omega (arith, all));
-      first = λ k under. elim (cases_eq k i) [
-        | inl last ↦ get_or_at items (at j) [] 0 k (all ∙ sym last) ∙ ap at (sym (ap (exchanged i j) last ∙ exchanged_first i j))
-        | inr other ↦ get_or_append_left items (at j ∷ []) 0 k (omega arith) ∙ shuffled.first k (omega arith) ∙ ap at (sym (exchanged_else i j k other (λ e. omega arith)))
-      ];
+      first = λ k under. grind (arith, get_or_push, get_or_append_left, exchanged_first, exchanged_else, shuffled.first k);
       apart = λ k l same. sym (exchanged_twice i j k) ∙ ap (exchanged i j) (shuffled.apart _ _ same) ∙ exchanged_twice i j l;
       inside = λ k under. shuffled.inside (exchanged i j k) (exchanged_below i j count (omega arith) below k under);
     }
