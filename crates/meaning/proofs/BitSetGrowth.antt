@@ -35,10 +35,10 @@ taken_clear : (m i : ℕ) (bs : List Bool) → Clear (suc m) i bs → Clear m (s
 taken_clear m i bs clear = let inside = clear.inside in record { inside = rw length-set (omega (arith, inside)); none = λ j past below. grind (arith, length-set, get_or-set_other, clear.none j) }
 
 passed_clear : (m i : ℕ) (bs : List Bool) → Clear (suc m) i bs → Clear m (suc i) bs
-passed_clear m i bs clear = let inside = clear.inside in record { inside = omega (arith, inside); none = λ j past below. clear.none j (omega (arith, past)) below }
+passed_clear m i bs clear = let inside = clear.inside in record { inside = omega (arith, inside); none = λ j past below. clear.none j (omega arith) below }
 
 none_clear : (min max size : ℕ) → min ≤ max → max ≤ size → Clear (max - min) min (replicate size false)
-none_clear min max size ordered within = let all = length-replicate size false in record { inside = omega (arith, all, ordered, within); none = λ j past below. get_or-replicate size j false false (omega (arith, all, below)) }
+none_clear min max size ordered within = let all = length-replicate size false in record { inside = omega arith; none = λ j past below. get_or-replicate size j false false (omega arith) }
 
 module _ {X : Type 0} (w : Words X) (low cursor longest : ℕ) where
   abbrev Drawn : RunnerState X → Outcome X (List Bool) → Type 0
@@ -47,14 +47,14 @@ module _ {X : Type 0} (w : Words X) (low cursor longest : ℕ) where
   -- with k wanted of the m bits from number i on, all of which can be had
   samples : (m k i : ℕ) (r : RunnerState X) (bs : List Bool) → m < 2 ^ 64 → k ≤ m → Clear m i bs → low ≤ members bs + k → members bs + k ≤ longest → Drawn r (sample_from w m k i r bs)
   samples m zero i r bs few wanted clear large small = (bits_sound low cursor longest bs (omega arith) (omega arith), le_refl r.rejections)
-  samples zero (suc k) i r bs few wanted clear large small = absurd (omega (arith, wanted))
+  samples zero (suc k) i r bs few wanted clear large small = absurd (omega arith)
   samples (suc m) (suc k) i r bs few wanted clear large small =
       let inside = clear.inside in
       let more = members_more bs i (omega (arith, inside)) (clear.none i (le_refl i) (omega (arith, inside))) in
       drawn_on (Sound low cursor longest) (drawn 0 m (word w r.source)) r' bs _
       (λ v drew. cond_both (ltb v (suc k)) (sample_from w m k (suc i) r' (set bs i true)) (sample_from w m (suc k) (suc i) r' bs) (Drawn r)
-      (λ taken. samples m k (suc i) r' (set bs i true) (omega (arith, few)) (omega (arith, wanted)) (taken_clear m i bs clear) (omega (arith, more, large)) (omega (arith, more, small)))
-      (λ passed. samples m (suc k) (suc i) r' bs (omega (arith, few)) (still_there v drew passed) (passed_clear m i bs clear) large small))
+      (λ taken. samples m k (suc i) r' (set bs i true) (omega arith) (omega arith) (taken_clear m i bs clear) (omega arith) (omega arith))
+      (λ passed. samples m (suc k) (suc i) r' bs (omega arith) (still_there v drew passed) (passed_clear m i bs clear) large small))
     where
       r' : RunnerState X
       r' = advanced w r
@@ -63,13 +63,13 @@ module _ {X : Type 0} (w : Words X) (low cursor longest : ℕ) where
       still_there : (v : ℕ) → drawn 0 m (word w r.source) ≡ Ok v → ltb v (suc k) ≡ false → suc k ≤ m
       still_there v drew passed =
           let above = ltb-false v (suc k) passed in
-          let below = (drawn_range 0 m (omega arith) (omega (arith, few)) (word w r.source) v drew).1 in
-          omega (arith, above, below)
+          let below = (drawn_range 0 m (omega arith) (omega arith) (word w r.source) v drew).1 in
+          omega arith
 
 flips : {X : Type 0} (w : Words X) (cursor longest n i : ℕ) (r : RunnerState X) (bs : List Bool) → members bs + n ≤ longest → Draws (Sound 0 cursor longest) r.rejections (flip_from w n i r bs)
-flips w cursor longest zero i r bs room = (bits_sound 0 cursor longest bs (omega arith) (omega (arith, room)), le_refl r.rejections)
+flips w cursor longest zero i r bs room = (bits_sound 0 cursor longest bs (omega arith) (omega arith), le_refl r.rejections)
 flips w cursor longest (suc n) i r bs room = drawn_on (Sound 0 cursor longest) (answered (word w r.source)) (advanced w r) bs _
-    (λ yes drew. let more = cond_both yes (set bs i true) bs (λ now. members now ≤ suc (members bs)) (λ taken. (members_put bs i).1) (λ passed. omega arith) in flips w cursor longest n (suc i) (advanced w r) (cond yes (set bs i true) bs) (omega (arith, more, room)))
+    (λ yes drew. let more = cond_both yes (set bs i true) bs (λ now. members now ≤ suc (members bs)) (λ taken. (members_put bs i).1) (λ passed. omega arith) in flips w cursor longest n (suc i) (advanced w r) (cond yes (set bs i true) bs) (omega arith))
 
 module _ {X : Type 0} (w : Words X) (min max size : ℕ) (r : RunnerState X) where
   flipped_sound : Draws (Sound 0 min (max - min)) r.rejections (flipped w min max size r)
@@ -78,18 +78,14 @@ module _ {X : Type 0} (w : Words X) (min max size : ℕ) (r : RunnerState X) whe
   module _ (low high : ℕ) (can : Sampleable min max size low high) where
     sized_sound : (k : ℕ) → (low ≤ k) × (k ≤ high) → Draws (Sound low min high) r.rejections (sample_from w (max - min) k min (advanced w r) (replicate size false))
     sized_sound k (large, small) =
-        let enough = can.enough in
         let inside = can.inside in
-        let few = can.few in
         let none = no_members size in
-        samples w low min high (max - min) k min (advanced w r) (replicate size false) (omega (arith, inside, few)) (omega (arith, small, enough)) (none_clear min max size can.bits inside) (omega (arith, none, large)) (omega (arith, none, small))
+        samples w low min high (max - min) k min (advanced w r) (replicate size false) (omega (arith, inside)) (omega arith) (none_clear min max size can.bits inside) (omega (arith, none)) (omega (arith, none))
 
     sampled_sound : Draws (Sound low min high) r.rejections (sampled w min max size low high r)
     sampled_sound =
-        let enough = can.enough in
         let inside = can.inside in
-        let few = can.few in
-        let range = drawn_range low high can.sizes (omega (arith, enough, inside, few)) (word w r.source) in
+        let range = drawn_range low high can.sizes (omega (arith, inside)) (word w r.source) in
         drawn_on (Sound low min high) (drawn low high (word w r.source)) (advanced w r) (replicate size false) _ (λ k drew. sized_sound k (range k drew))
 
 pub bits_roots : {P : Type 0} (min max size : P → ℕ) → Roots set_steps set_sound (λ p s. false) (bits_growth min max size) (bits_stated min max)

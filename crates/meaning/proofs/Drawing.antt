@@ -18,7 +18,7 @@ use Rattle.meaning.specs.Sets.{draw_on}
 within_range : (low high word : ℕ) → low ≤ high → high - low < 2 ^ 64 - 1 → (low ≤ within low high word) × (within low high word ≤ high)
 within_range low high word ordered narrow =
     let rest = mod-lt word {m = high - low + 1} (omega arith) in
-    rw (lt-ltb (high - low) (2 ^ 64 - 1) narrow) (omega (arith, rest), omega (arith, rest, ordered))
+    rw (lt-ltb (high - low) (2 ^ 64 - 1) narrow) (omega arith, omega arith)
 
 pub drawn_range : (low high : ℕ) → low ≤ high → high - low < 2 ^ 64 - 1 → (word : Option ℕ) (n : ℕ) → drawn low high word ≡ Ok n → (low ≤ n) × (n ≤ high)
 drawn_range low high ordered narrow None n e = absurd (cc)

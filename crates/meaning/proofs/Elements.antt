@@ -37,7 +37,7 @@ module _ {T I P : Type 0} {table : ℕ → Steps T I} {sound : ℕ → T → Typ
     pub room : together (λ j. (table j).longest s) n ≤ stated p n
 
   no_elements : (s : T) → Elements 0 s
-  no_elements s = record { each = λ j below. absurd (omega (arith, below)); room = omega arith }
+  no_elements s = record { each = λ j below. absurd (omega arith); room = omega arith }
 
   one_more : (i : ℕ) (r : RunnerState X) (s : T) → Elements i s → (g p X w i r s).answer ≡ Ok tt → Elements (suc i) (g p X w i r s).place
   one_more i r s elements e =
@@ -47,11 +47,11 @@ module _ {T I P : Type 0} {table : ℕ → Steps T I} {sound : ℕ → T → Typ
       record {
         each = everywhere (λ j. j < suc i → Standing (table j) (sound j) now) i
             (λ below. (rooted.is_sound, rooted.is_grown))
-            (λ j other below. let standing = elements.each j (omega (arith, other, below)) in ((apart j other).still_sound standing.0, (apart j other).same_grown ∙ standing.1));
+            (λ j other below. let standing = elements.each j (omega arith) in ((apart j other).still_sound standing.0, (apart j other).same_grown ∙ standing.1));
         room =
             let before = together_same (λ j. (table j).longest now) (λ j. (table j).longest s) i (λ j below. (apart j (λ e. omega arith)).same_longest) in
             let room = elements.room in
-            omega (arith, before, room, states);
+            omega (arith, room);
       }
 
   -- a vector of all of them is sound, wherever its cursor stands
@@ -68,7 +68,7 @@ module _ {T I P : Type 0} {table : ℕ → Steps T I} {sound : ℕ → T → Typ
   -- from the runner and table that a growth starts with
   module _ (r : RunnerState X) (s : T) where
     kept_on : (i : ℕ) (r' : RunnerState X) (s' : T) → Kept short r s r' s' → Kept short r s (g p X w i r' s').runner (g p X w i r' s').place
-    kept_on i r' s' kept = let before = kept.calm in let here = roots.calm p X w i r' s' in record { calm = omega arith; lasting = λ q n. roots.lasting p q X w n i r' s' ∙ kept.lasting q n }
+    kept_on i r' s' kept = let here = roots.calm p X w i r' s' in record { calm = omega arith; lasting = λ q n. roots.lasting p q X w n i r' s' ∙ kept.lasting q n }
 
     abbrev pub Done : ℕ → RunnerState X → T → Type 0
     Done i r' s' = Elements i s' × Kept short r s r' s'

@@ -38,10 +38,10 @@ module _ {M S J I : Type 0} (source : Steps M J) (t : Steps S I) where
   answered_falls before x m c true m-answer less c-falls m-falls = omega arith
   answered_falls before x m c false true less c-falls m-falls =
       let round = round_more x.cases ((fuse_steps source).back m) ((fuse_steps source).back x.meta) m-falls in
-      returning_falls before (with_trees x m c) (offered source (with_trees x m c)) (omega (arith, round))
+      returning_falls before (with_trees x m c) (offered source (with_trees x m c)) (omega arith)
   answered_falls before x m c false false less c-falls m-falls =
       let rounds = mul-le-mul_left (x.cases + 1) m-falls in
-      last_falls before (with_trees x m c) x.final_complication (omega (arith, rounds))
+      last_falls before (with_trees x m c) x.final_complication (omega arith)
 
   module _ (source-total : Total source) (total : Total t) where
     further_falls : (before : ℕ) (x : FlatTree M S J) → back x ≤ before → FallsFrom before (further source t x)

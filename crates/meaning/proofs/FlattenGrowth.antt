@@ -75,7 +75,6 @@ module _ {M S J I N P Q : Type 0} {source : Steps M J} {t : Steps S I} {source_s
       chosen_kept : (l : List J) (r' : RunnerState X) (m : M) → Kept r'.rejections m x.current.inner →
           (let o : Outcome X S = g (chooser.choose q l) X w r' x.current.inner in Kept o.runner.rejections m o.place)
       chosen_kept l r' m kept =
-          let before = kept.calm in
           let here = roots.calm (chooser.choose q l) X w r' x.current.inner in
           record {
             calm = omega arith;

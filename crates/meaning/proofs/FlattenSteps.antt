@@ -170,7 +170,7 @@ module _ {M S J I : Type 0} (source : Steps M J) (t : Steps S I) (source_sound :
 
     flat_kept : Total source → Total t → Keeps flat Sound
     flat_kept source-total total = record {
-      fits = λ x is_sound. let fits = keeps.fits x.current.inner is_sound.current.0 in let room = is_sound.current.1 in omega (arith, fits, room);
+      fits = λ x is_sound. let fits = keeps.fits x.current.inner is_sound.current.0 in omega arith;
       simplify = simplify_kept;
       complicate = λ x is_sound.
           let r = flat_complicate source t x in

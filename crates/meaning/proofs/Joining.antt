@@ -40,6 +40,6 @@ together_same f h (suc n) same =
 pub joined_fits : {I : Type 0} (f : ℕ → List I) (most : ℕ → ℕ) (n : ℕ) → ((j : ℕ) → j < n → length (f j) ≤ most j) → (i : ℕ) (bs : List Bool) → i + length bs ≡ n → length (joined f i bs) + together most i ≤ together most n
 joined_fits f most n fits i [] e = let all : together most i ≡ together most n = ap (together most) (omega arith) in omega arith
 joined_fits f most n fits i (b ∷ bs) e =
-    let here = cond_both b (f i) [] (λ xs. length xs ≤ most i) (λ member. fits i (omega (arith, e))) (λ none. omega arith) in
-    let rest = joined_fits f most n fits (suc i) bs (omega (arith, e)) in
-    simp length-append (omega (arith, here, rest))
+    let here = cond_both b (f i) [] (λ xs. length xs ≤ most i) (λ member. fits i (omega arith)) (λ none. omega arith) in
+    let rest = joined_fits f most n fits (suc i) bs (omega arith) in
+    simp length-append (omega arith)

@@ -120,9 +120,9 @@ module _ {S I P : Type 0} {t : Steps S I} {sound : S → Type 0} {short : P → 
       o.answer ≡ Ok tt → Rooted (lazy_steps t) (lazy_sound (Limited t sound limit)) o.place × ((lazy_steps t).longest o.place ≡ stated p))
   lazy_accepted p limit fits X w r x e =
       let (root, states) = lazy_roots.accepted p X w r x e in
-      (record { is_sound = limited_sound t sound limit _ root.is_grown (omega (arith, fits, states)) root.is_sound; is_grown = root.is_grown; at_home = root.at_home; no_back = root.no_back }, states)
+      (record { is_sound = limited_sound t sound limit _ root.is_grown (omega arith) root.is_sound; is_grown = root.is_grown; at_home = root.at_home; no_back = root.no_back }, states)
 
   pub lazy_waits : (p : P) (limit : ℕ) → stated p ≤ limit → (X : Type 0) (w : Words X) (r : RunnerState X) (x : Lazy S) → lazy_sound (Limited t sound limit) (lazy_wait g p X w r x)
   lazy_waits p limit fits X w r x =
       let o = g p X w r (place_of x) in
-      waits_sound (Limited t sound limit) (place_of x) o.place o.answer (λ e. let (root, states) = roots.accepted p X w r (place_of x) e in (root.is_sound, omega (arith, fits, states)))
+      waits_sound (Limited t sound limit) (place_of x) o.place o.answer (λ e. let (root, states) = roots.accepted p X w r (place_of x) e in (root.is_sound, omega arith))

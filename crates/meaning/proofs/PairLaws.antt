@@ -67,7 +67,7 @@ end_keeps = record {
 }
 
 end_untold : {P : Type 0} (p : P) (n i : ℕ) → i < n → (s : Unit {0}) → end_short p n s ≡ false → ⊥
-end_untold p zero i below s enough = omega (arith, below)
+end_untold p zero i below s enough = omega arith
 end_untold p (suc n) i below s enough = true≢false enough
 
 pub end_roots : {I P : Type 0} → TableRoots (no_trees {I = I}) end_sound (end_short {P = P}) end_growth end_stated
@@ -136,19 +136,19 @@ module _ {S T I P R Q : Type 0} {t : Steps S I} {table : ℕ → Steps T I} {sou
   pair_accepted q X w zero r p e =
       let (rooted, longest) = roots.accepted (first q) X w r p.first e in
       let none = rest-roots.none (rest q) in
-      (part_rooted first_part t sound (grows q X w zero r p).place rooted, omega (arith, longest, none))
+      (part_rooted first_part t sound (grows q X w zero r p).place rooted, omega arith)
   pair_accepted q X w (suc i) r p e =
       let (rooted, longest) = rest-roots.accepted (rest q) X w i r p.rest e in
-      (part_rooted rest_part (table i) (sounds i) (grows q X w (suc i) r p).place rooted, omega (arith, longest))
+      (part_rooted rest_part (table i) (sounds i) (grows q X w (suc i) r p).place rooted, omega arith)
 
   grows_untouched : (q : Q) (X : Type 0) (w : Words X) (i : ℕ) (r : RunnerState X) (p : Pair S T) → Untouched t table sound sounds i p (grows q X w i r p).place
   grows_untouched q X w zero r p = refl
   grows_untouched q X w (suc i) r p = (refl, λ j other. rest-roots.apart (rest q) X w i j other r p.rest)
 
   pair_untold : (q : Q) (X : Type 0) (w : Words X) (n i : ℕ) → i < n → (r : RunnerState X) (p : Pair S T) (fault : GrowFault) → few q n p ≡ false → (grows q X w i r p).answer ≡ Err fault → fault.cause ≡ Slots → ⊥
-  pair_untold q X w zero i below r p fault enough e = absurd (omega (arith, below))
+  pair_untold q X w zero i below r p fault enough e = absurd (omega arith)
   pair_untold q X w (suc n) zero below r p fault enough e = roots.untold (first q) X w r p.first fault (neither _ _ enough).0 e
-  pair_untold q X w (suc n) (suc i) below r p fault enough e = rest-roots.untold (rest q) X w n i (omega (arith, below)) r p.rest fault (neither _ _ enough).1 e
+  pair_untold q X w (suc n) (suc i) below r p fault enough e = rest-roots.untold (rest q) X w n i (omega arith) r p.rest fault (neither _ _ enough).1 e
 
   pair_lasting : (q other : Q) (X : Type 0) (w : Words X) (n i : ℕ) (r : RunnerState X) (p : Pair S T) → few other n (grows q X w i r p).place ≡ few other n p
   pair_lasting q other X w zero i r p = refl
@@ -161,7 +161,7 @@ module _ {S T I P R Q : Type 0} {t : Steps S I} {table : ℕ → Steps T I} {sou
 
   pair_rising : (q : Q) (n : ℕ) → states q n ≤ states q (suc n)
   pair_rising q zero = omega arith
-  pair_rising q (suc n) = let more = rest-roots.rising (rest q) n in omega (arith, more)
+  pair_rising q (suc n) = let more = rest-roots.rising (rest q) n in omega arith
 
   pub pair_roots : TableRoots (pair_table t table) (pair_sound sound sounds) (pair_short first rest short shorts) (pair_growth first rest g growths) (pair_stated first rest stated stateds)
   pair_roots = record {

@@ -23,7 +23,7 @@ pub end_options_keep : {I : Type 0} → OptionsKeep (no_trees {I = I}) end_start
 end_options_keep = record { keeps = λ limit. end_keeps; limited = λ limit i s none. absurd none; starts = λ limit i s none. none; starts_apart = λ limit. end_keeps.simplify_apart }
 
 end_waits : {P : Type 0} (p : P) (limit n i : ℕ) → i < n → (s : Unit {0}) → end_short p n s ≡ false → end_options_sound limit i s
-end_waits p limit zero i below s enough = omega (arith, below)
+end_waits p limit zero i below s enough = omega arith
 end_waits p limit (suc n) i below s enough = true≢false enough
 
 pub end_options_root : {I P : Type 0} → OptionsRoot (no_trees {I = I}) end_options_sound (end_short {P = P}) end_growth end_wait end_options_stated
@@ -127,9 +127,9 @@ module _ {S T I P R Q : Type 0} {t : Steps S I} {table : ℕ → Steps T I} {sou
   table_roots = pair_roots first rest (lazy_roots roots) (as_table rest-roots)
 
   pair_waits : (q : Q) (X : Type 0) (w : Words X) (limit n i : ℕ) → states q i ≤ limit → i < n → (r : RunnerState X) (p : Pair (Lazy S) T) → few q n p ≡ false → pair_options_sound t sound sounds limit i (waits q X w i r p)
-  pair_waits q X w limit zero i fits below r p enough = absurd (omega (arith, below))
+  pair_waits q X w limit zero i fits below r p enough = absurd (omega arith)
   pair_waits q X w limit (suc n) zero fits below r p enough = lazy_waits roots (first q) limit fits X w r p.first
-  pair_waits q X w limit (suc n) (suc i) fits below r p enough = rest-roots.waits (rest q) X w limit n i fits (omega (arith, below)) r p.rest (neither _ _ enough).1
+  pair_waits q X w limit (suc n) (suc i) fits below r p enough = rest-roots.waits (rest q) X w limit n i fits (omega arith) r p.rest (neither _ _ enough).1
 
   waits_spares : (q : Q) (X : Type 0) (w : Words X) (limit i : ℕ) (r : RunnerState X) (p : Pair (Lazy S) T) → Spared t table sound sounds limit i p (waits q X w i r p)
   waits_spares q X w limit zero r p = refl

@@ -18,30 +18,30 @@ running_length so_far (weight ∷ weights) = ap suc (running_length (so_far + we
 
 -- the first, and then those after it
 counted_first : (draw so_far : ℕ) (weights : List ℕ) (test : Bool) → leb so_far draw ≡ test → (so_far ≤ draw → counted draw so_far weights < length weights) → cond test 1 0 + counted draw so_far weights < suc (length weights)
-counted_first draw so_far weights true e later = let rest = later (leb-true so_far draw e) in omega (arith, rest)
+counted_first draw so_far weights true e later = let rest = later (leb-true so_far draw e) in omega arith
 counted_first draw so_far weights false e later =
     let most = count_by-le-length (λ x. leb x draw) (running so_far weights) in
     let same = running_length so_far weights in
-    omega (arith, most, same)
+    omega arith
 
 counted_below : (draw so_far : ℕ) (weights : List ℕ) → so_far ≤ draw → draw < so_far + sum weights → counted draw so_far weights < length weights
-counted_below draw so_far [] past low = absurd (omega (arith, past, low))
+counted_below draw so_far [] past low = absurd (omega arith)
 counted_below draw so_far (weight ∷ weights) past low =
     let next = so_far + weight in
     let all = sum_by-cons (λ x. x) weight weights in
     let count = sum_by-cons (λ x. cond (leb x draw) 1 0) next (running next weights) in
-    let first = counted_first draw next weights (leb next draw) refl (λ under. counted_below draw next weights under (omega (arith, low, all))) in
-    omega (arith, count, first)
+    let first = counted_first draw next weights (leb next draw) refl (λ under. counted_below draw next weights under (omega arith)) in
+    omega arith
 
 pub picked_below : (weights : List ℕ) → 0 < sum weights → sum weights < 2 ^ 64 → (word : Option ℕ) (draw : ℕ) → drawn 0 (sum weights - 1) word ≡ Ok draw → pick_for weights draw < length weights
 picked_below weights some few word draw e =
-    let range = drawn_range 0 (sum weights - 1) (omega arith) (omega (arith, some, few)) word draw e in
-    counted_below draw 0 weights (omega arith) (omega (arith, some, range.1))
+    let range = drawn_range 0 (sum weights - 1) (omega arith) (omega arith) word draw e in
+    counted_below draw 0 weights (omega arith) (omega (arith, range.1))
 
 -- none of the first n states more than the greatest
 pub none_greater : (f : ℕ → ℕ) (n i : ℕ) → i < n → f i ≤ greatest f n
-none_greater f zero i low = absurd (omega (arith, low))
+none_greater f zero i low = absurd (omega arith)
 none_greater f (suc n) i low = elim (cases_eq i n) [
   | inl same ↦ rw same (le-max_right (greatest f n) (f n))
-  | inr other ↦ le_trans (none_greater f n i (omega (arith, low, other))) (le-max_left (greatest f n) (f n))
+  | inr other ↦ le_trans (none_greater f n i (omega arith)) (le-max_left (greatest f n) (f n))
 ]

@@ -30,14 +30,14 @@ module _ {S I : Type 0} (t : Steps S I) (sound : S → Type 0) where
 
   good_complicate : (s s' : S) (b : Bool) (h : List (Event S I)) → sound s' → Complicates (meant t s) b (meant t s') → Good t sound s' h → Good t sound s (step complicate s (record { answer = b; tree = s' }) ∷ h)
   good_complicate s s' true h o l g = record {
-    few = (let a = g.few in let b = l.1 in omega (arith, a, b));
+    few = (let a = g.few in let b = l.1 in omega arith);
     falses = (tt, subst (λ c. FalsesShow t c (since h)) l.0 g.falses);
     comes = subst (λ c. ComesTo t c h) l.0 g.comes;
     one_way = (tt, g.one_way);
     through = (o, g.through);
   }
   good_complicate s s' false h o l g = record {
-    few = (let a = g.few in let b = l.3 in omega (arith, a, b));
+    few = (let a = g.few in let b = l.3 in omega arith);
     falses = (l.0 ∙ l.2, subst (λ c. FalsesShow t c (since h)) l.1 g.falses);
     comes = l.0 ∙ l.2;
     one_way = (tt, g.one_way);
@@ -50,7 +50,7 @@ module _ {S I : Type 0} (t : Steps S I) (sound : S → Type 0) where
 
   good_still : (what : Happening I) (s : S) (h : List (Event S I)) → Adds what s h → sound s → Good t sound s h → Good t sound s (still what s ∷ h)
   good_still what s h (goes_on, none, shows, one_way, comes) o g = record {
-    few = rw goes_on (let few = g.few in omega (arith, none, few));
+    few = rw goes_on (let few = g.few in omega (arith, few));
     falses = rw goes_on (shows, g.falses);
     comes = comes;
     one_way = (one_way, g.one_way);
@@ -61,14 +61,13 @@ module _ {S I : Type 0} (t : Steps S I) (sound : S → Type 0) where
 
 leads_on : {S I : Type 0} (t : Steps S I) (s s' : S) (n : ℕ) (b : Bool) → (t.complicate s).answer ≡ b → (t.complicate s).tree ≡ s' → Complicates (meant t s) b (meant t s') → t.back s ≤ n → (t.back s' < n → (m : ℕ) × Leads t m s' (t.home s')) → (m : ℕ) × Leads t m s (t.home s)
 leads_on t s s' n true e e' l z rest =
-    let d = l.1 in
-    let q = rest (omega (arith, d, z)) in
+    let q = rest (omega arith) in
     (suc q.0, (e, subst (λ x. Leads t q.0 x (t.home s)) (sym e') (subst (λ c. Leads t q.0 s' c) l.0 q.1)))
 leads_on t s s' n false e e' l z rest = (zero, (e, ap t.candidate e' ∙ l.0 ∙ l.2))
 
 leads : {S I : Type 0} {t : Steps S I} {sound : S → Type 0} (k : Keeps t sound) (n : ℕ) (s : S) → sound s → t.back s ≤ n → (m : ℕ) × Leads t m s (t.home s)
-leads {t} k zero s o z = leads_on t s (t.complicate s).tree zero (t.complicate s).answer refl refl (k.complicate s o).1 z (λ l. absurd (omega (arith, l)))
-leads {t} k (suc n) s o z = leads_on t s (t.complicate s).tree (suc n) (t.complicate s).answer refl refl (k.complicate s o).1 z (λ l. leads k n (t.complicate s).tree (k.complicate s o).0 (omega (arith, l)))
+leads {t} k zero s o z = leads_on t s (t.complicate s).tree zero (t.complicate s).answer refl refl (k.complicate s o).1 z (λ l. absurd (omega arith))
+leads {t} k (suc n) s o z = leads_on t s (t.complicate s).tree (suc n) (t.complicate s).answer refl refl (k.complicate s o).1 z (λ l. leads k n (t.complicate s).tree (k.complicate s o).0 (omega arith))
 
 -- what a reduction from s keeps, of which the lists judged so far gave this result
 
@@ -98,28 +97,26 @@ module _ {S I : Type 0} (t : Steps S I) (sound : S → Type 0) where
   law_step : (n : ℕ) (c : List I) (e : Event S I) (r : Reduction S I) → is_verdict e.what ≡ 0 → ((h : List (Event S I)) → Good t sound e.after h → Good t sound e.before (e ∷ h)) →
       ((budget : ℕ) (js : List (Judged I)) (h : List (Event S I)) → Reductions t budget js h → Reductions t budget js (e ∷ h)) → Law t sound n c e.after r → Law t sound n c e.before (preceded e r)
   law_step n c e r none good counts law =
-      let w = law.within in
       record {
         sound_left = law.sound_left;
-        within = omega (arith, none, w);
+        within = omega arith;
         at_home = law.at_home;
         goes = λ h g. good (r.own ++ h) (law.goes h g);
-        counts = λ budget js h d k. counts budget js (r.own ++ h) (law.counts budget js h d (λ js' len. k js' (omega (arith, none, len))));
+        counts = λ budget js h d k. counts budget js (r.own ++ h) (law.counts budget js h d (λ js' len. k js' (omega arith)));
       }
 
   -- a verdict, and what follows it
   law_verdict : (n : ℕ) (f : Bool) (so_far : List I) (s : S) (r : Reduction S I) → sound s → Law t sound n (cond f (t.candidate s) so_far) s r → Law t sound (suc n) so_far s (preceded (still (verdict f) s) r)
   law_verdict n f so_far s r o d =
-      let w = d.within in
       record {
         sound_left = d.sound_left;
-        within = omega (arith, w);
+        within = omega arith;
         at_home = d.at_home;
         goes = λ h g. good_still t sound (verdict f) s (r.own ++ h) (refl, refl, tt, tt, tt) o (d.goes h g);
         counts = λ budget js h e k.
             let j : Judged I = record { list = t.candidate s; failed = f } in
             let l = length-append js (j ∷ []) in
-            d.counts budget (js ++ (j ∷ [])) h (last_failed_more [] js j ∙ ap (λ (c : List I). cond f (t.candidate s) c) e) (λ js' len. k js' (omega (arith, len, l)));
+            d.counts budget (js ++ (j ∷ [])) h (last_failed_more [] js j ∙ ap (λ (c : List I). cond f (t.candidate s) c) e) (λ js' len. k js' (omega arith));
       }
 
 module _ {S I : Type 0} {t : Steps S I} {sound : S → Type 0} (k : Keeps t sound) (fails : List I → Bool) where
@@ -141,7 +138,7 @@ module _ {S I : Type 0} {t : Steps S I} {sound : S → Type 0} (k : Keeps t soun
   Lawful n first result s r = sound s → Begun first n result s → Law t sound n result s r
 
   spent_lawful : (first : Bool) (result : List I) (s : S) → Lawful zero first result s (over_at Spent result s)
-  spent_lawful true result s o begun = let l = begun.1 in absurd (omega (arith, l))
+  spent_lawful true result s o begun = absurd (omega arith)
   spent_lawful false result s o begun = law_over t sound zero Spent result s o (λ spent. begun)
 
   lawful : Cases t Lawful
@@ -188,7 +185,7 @@ module _ {S I : Type 0} {t : Steps S I} {sound : S → Type 0} (k : Keeps t soun
         good = good_still t sound (start budget) s _ (refl, refl, tt, tt, tt) o (law.goes _ (good_still t sound (report (report_of r)) r.left (h r.left) (refl, refl, tt, tt, tt) law.sound_left rest.good));
         reports = λ b js. law.counts budget [] (still (report (report_of r)) r.left ∷ h r.left) refl (λ js' len gave. (
           record {
-            counted = omega (arith, len);
+            counted = omega arith;
             within = w;
             gave = sym gave;
             way_back = λ spent. subst (λ (c : List I). (n : ℕ) × Leads t n r.left c) (law.at_home spent) (leads k (t.back r.left) r.left law.sound_left (le_refl _));

@@ -45,7 +45,7 @@ record Shuffled (start count i : ℕ) (at : ℕ → ℕ) (items : List ℕ) : Ty
 unshuffled : (start count : ℕ) → Shuffled start count 0 (λ k. start + k) []
 unshuffled start count = record {
   all = refl;
-  first = λ k below. absurd (omega (arith, below));
+  first = λ k below. absurd (omega arith);
   apart = λ k l same. omega arith;
   inside = λ k below. (omega arith, omega arith);
 }
@@ -71,10 +71,10 @@ shuffled_subset : (start count low high n : ℕ) (at : ℕ → ℕ) (items : Lis
 shuffled_subset start count low high n at items (large, small) fits shuffled =
     let all = shuffled.all in
     record {
-      enough = omega (arith, all, large);
-      room = omega (arith, all, small);
-      distinct = λ i j i-below j-below same. shuffled.apart i j (sym (shuffled.first i (omega (arith, all, i-below))) ∙ same ∙ shuffled.first j (omega (arith, all, j-below)));
-      inside = λ i below. rw (shuffled.first i (omega (arith, all, below))) (shuffled.inside i (omega (arith, all, below, fits)));
+      enough = omega (arith, all);
+      room = omega (arith, all);
+      distinct = λ i j i-below j-below same. shuffled.apart i j (sym (shuffled.first i (omega (arith, all))) ∙ same ∙ shuffled.first j (omega (arith, all)));
+      inside = λ i below. rw (shuffled.first i (omega (arith, all))) (shuffled.inside i (omega (arith, all)));
     }
 
 module _ {X : Type 0} (w : Words X) (start count low high : ℕ) (can : Choosable count low high) where
@@ -88,24 +88,21 @@ module _ {X : Type 0} (w : Words X) (start count low high : ℕ) (can : Choosabl
         let all : i ≡ n = omega arith in
         (shuffled_subset start count low high n at items size fits (subst (λ (k : ℕ). Shuffled start count k at items) all shuffled), le_refl r.rejections)
     shuffles (suc more) i at r items e shuffled = drawn_on (Subset start count low high) (drawn i (count - 1) (word w r.source)) (advanced w r) items _
-        (λ j drew. shuffles more (suc i) (λ k. at (exchanged i j k)) (advanced w r) (items ++ (at j ∷ [])) (omega (arith, e)) (next j drew))
+        (λ j drew. shuffles more (suc i) (λ k. at (exchanged i j k)) (advanced w r) (items ++ (at j ∷ [])) (omega arith) (next j drew))
       where
         next : (j : ℕ) → drawn i (count - 1) (word w r.source) ≡ Ok j → Shuffled start count (suc i) (λ k. at (exchanged i j k)) (items ++ (at j ∷ []))
         next j drew =
-            let narrow = can.narrow in
-            let (from, to) = drawn_range i (count - 1) (omega (arith, e, fits)) (omega (arith, narrow)) (word w r.source) j drew in
-            one_more start count i j at items from (omega (arith, e, to, fits)) shuffled
+            let (from, to) = drawn_range i (count - 1) (omega arith) (omega arith) (word w r.source) j drew in
+            one_more start count i j at items from (omega arith) shuffled
 
   sized_subset : (r : RunnerState X) (n : ℕ) → (low ≤ n) × (n ≤ high) → Drawn r (shuffle_from w count n 0 (λ k. start + k) (advanced w r) [])
   sized_subset r n size =
-      let small = size.1 in
       let enough = can.enough in
-      shuffles n size (omega (arith, small, enough)) n 0 (λ k. start + k) (advanced w r) [] (omega arith) (unshuffled start count)
+      shuffles n size (omega (arith, enough)) n 0 (λ k. start + k) (advanced w r) [] (omega arith) (unshuffled start count)
 
   chosen_subset : (r : RunnerState X) → Drawn r (chosen w start count low high r)
   chosen_subset r =
-      let few = can.few in
-      let range = drawn_range low high can.sizes (omega (arith, few)) (word w r.source) in
+      let range = drawn_range low high can.sizes (omega arith) (word w r.source) in
       drawn_on (Subset start count low high) (drawn low high (word w r.source)) (advanced w r) [] _ (λ n drew. sized_subset r n (range n drew))
 
   subset_sound : (items : List ℕ) → Subset start count low high items → SetSound (subset low high items)

@@ -28,10 +28,10 @@ module _ {I : Type 0} (item : ℕ → I) where
   shown_once : (n i : ℕ) (bs : List Bool) → Distinct item n → i + length bs ≤ n → Once (shown i bs)
   shown_once n i [] distinct within = tt
   shown_once n i (true ∷ bs) distinct within = (
-    shown_fit (λ y. y ≡ item i → ⊥) (suc i) bs (λ j from below same. let clash = distinct j i (omega arith) (omega arith) same in omega (arith, from, clash)),
-    shown_once n (suc i) bs distinct (omega (arith, within)),
+    shown_fit (λ y. y ≡ item i → ⊥) (suc i) bs (λ j from below same. let clash = distinct j i (omega arith) (omega arith) same in omega arith),
+    shown_once n (suc i) bs distinct (omega arith),
   )
-  shown_once n i (false ∷ bs) distinct within = shown_once n (suc i) bs distinct (omega (arith, within))
+  shown_once n i (false ∷ bs) distinct within = shown_once n (suc i) bs distinct (omega arith)
 
 module _ {I : Type 0} where
   -- each law is told by whether the place is grown
@@ -39,7 +39,7 @@ module _ {I : Type 0} where
   place grown s = record { grown = grown; tree = s }
 
   enough_at : (grown : Bool) (s : SetTree I) → grown ≡ true → set_sound (place grown s) → s.min_count ≤ length (set_steps.candidate (place grown s))
-  enough_at true s is_grown is_sound = let enough = is_sound.enough in let all = named_length s.item 0 s.included in omega (arith, enough, all)
+  enough_at true s is_grown is_sound = let all = named_length s.item 0 s.included in omega arith
   enough_at false s is_grown is_sound = absurd (false≢true is_grown)
 
   once_at : (grown : Bool) (s : SetTree I) → set_sound (place grown s) → Once (set_steps.candidate (place grown s))

@@ -22,10 +22,10 @@ put_back_no_less bs None = le_refl (members bs)
 put_back_no_less bs (Some i) = (members_put bs i).0
 
 first_is_member : (bs : List Bool) (i : ℕ) → first_member bs i < length bs → get_or bs (first_member bs i) false ≡ true
-first_is_member [] i below = absurd (omega (arith, below))
+first_is_member [] i below = absurd (omega arith)
 first_is_member (true ∷ bs) zero below = refl
-first_is_member (false ∷ bs) zero below = rw (add-suc 0 (skipped bs)) (first_is_member bs zero (omega (arith, below)))
-first_is_member (b ∷ bs) (suc i) below = rw (suc-add i (skipped (drop i bs))) (first_is_member bs i (omega (arith, below)))
+first_is_member (false ∷ bs) zero below = rw (add-suc 0 (skipped bs)) (first_is_member bs zero (omega arith))
+first_is_member (b ∷ bs) (suc i) below = rw (suc-add i (skipped (drop i bs))) (first_is_member bs i (omega arith))
 
 module _ {I : Type 0} where
   -- simplify clears a member, runs past the end or stays
@@ -50,7 +50,7 @@ module _ {I : Type 0} where
   set_ends s (Some i) = omega arith
 
   fits : (s : SetTree I) → SetSound s → members s.included ≤ s.longest
-  fits s is_sound = let room = is_sound.room in let no_less = put_back_no_less s.included s.prev_shrink in omega arith
+  fits s is_sound = let no_less = put_back_no_less s.included s.prev_shrink in omega arith
 
   -- simplify, where a member was cleared
   cleared_kept : (s : SetTree I) (i : ℕ) → SetSound s → s.min_count < members s.included → get_or s.included i false ≡ true → SimplifyKept bare SetSound s (cleared s i)
@@ -58,7 +58,7 @@ module _ {I : Type 0} where
       let less = members_less s.included i member in
       let back = deleted_and_back s.included i member in (
         record {
-          enough = omega (arith, less, more);
+          enough = omega arith;
           distinct = rw (length-set s.included i false) is_sound.distinct;
           room = rw back (fits s is_sound);
         },
@@ -78,14 +78,14 @@ module _ {I : Type 0} where
   complicate_kept s (Some i) is_sound =
       let enough = is_sound.enough in
       let more = members_put s.included i in
-      (record { enough = omega (arith, enough, more); distinct = rw (length-set s.included i true) is_sound.distinct; room = is_sound.room }, (refl, omega arith), refl)
+      (record { enough = omega arith; distinct = rw (length-set s.included i true) is_sound.distinct; room = is_sound.room }, (refl, omega arith), refl)
 
   pub set_total : Total (set_steps {I = I})
   set_total = placed_total bare_set (λ s. set_ends s s.prev_shrink)
 
   pub set_keeps : Keeps (set_steps {I = I}) set_sound
   set_keeps = placed_keeps bare_set set_sound (record {
-    fits = λ s is_sound. let length-is = named_length s.item 0 s.included in let few = fits s is_sound in omega (arith, length-is, few);
+    fits = λ s is_sound. let length-is = named_length s.item 0 s.included in let few = fits s is_sound in omega arith;
     simplify = simplify_kept;
     complicate = λ s. complicate_kept s s.prev_shrink;
   })

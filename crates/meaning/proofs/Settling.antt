@@ -42,13 +42,13 @@ module _ {S I : Type 0} (t : Steps S I) (rule : List I → Bool) where
     -- any bound at or above the steps back gives the same
     settle_enough : (n m : ℕ) (s : S) → t.back s ≤ n → t.back s ≤ m → settle t rule n s ≡ settle t rule m s
     settle_enough zero zero s under over = refl
-    settle_enough zero (suc m) s under over = settle_same (λ last. last) (settle t rule m) s (λ s' falls. absurd (omega (arith, falls, under)))
-    settle_enough (suc n) zero s under over = settle_same (settle t rule n) (λ last. last) s (λ s' falls. absurd (omega (arith, falls, over)))
-    settle_enough (suc n) (suc m) s under over = settle_same (settle t rule n) (settle t rule m) s (λ s' falls. settle_enough n m s' (omega (arith, falls, under)) (omega (arith, falls, over)))
+    settle_enough zero (suc m) s under over = settle_same (λ last. last) (settle t rule m) s (λ s' falls. absurd (omega arith))
+    settle_enough (suc n) zero s under over = settle_same (settle t rule n) (λ last. last) s (λ s' falls. absurd (omega arith))
+    settle_enough (suc n) (suc m) s under over = settle_same (settle t rule n) (settle t rule m) s (λ s' falls. settle_enough n m s' (omega arith) (omega arith))
 
     pub settle_again : (s : S) → settled t rule s ≡ settle_once t rule (settled t rule) s
     settle_again s = settle_enough (t.back s) (suc (t.back s)) s (le_refl (t.back s)) (omega arith) ∙
-        settle_same (settle t rule (t.back s)) (settled t rule) s (λ s' falls. settle_enough (t.back s) (t.back s') s' (omega (arith, falls)) (le_refl (t.back s')))
+        settle_same (settle t rule (t.back s)) (settled t rule) s (λ s' falls. settle_enough (t.back s) (t.back s') s' (omega arith) (le_refl (t.back s')))
 
     pub step_falls : (s s' : S) (answer : Bool) → Falls (t.back s) answer (t.back s') → Falls (t.back s) answer (t.back (settled_step t rule (record { answer = answer; tree = s' })).tree)
     step_falls s s' true falls = let no_rise = (settle_stays (t.back s') s').no_rise in omega arith
@@ -81,8 +81,8 @@ module _ {S I : Type 0} (t : Steps S I) (rule : List I → Bool) where
       once_settles next s is_sound home later = let step = t.complicate s in settles_on s step.tree (next step.tree) (rule (t.candidate s)) step.answer refl is_sound home (keeps.complicate s is_sound) (later step.tree)
 
       settle_settles : (n : ℕ) (s : S) → t.back s ≤ n → sound s → rule (t.home s) ≡ true → Settles s (settle t rule n s)
-      settle_settles zero s under is_sound home = once_settles (λ last. last) s is_sound home (λ s' now-sound now-home falls. absurd (omega (arith, falls, under)))
-      settle_settles (suc n) s under is_sound home = once_settles (settle t rule n) s is_sound home (λ s' now-sound now-home falls. settle_settles n s' (omega (arith, falls, under)) now-sound now-home)
+      settle_settles zero s under is_sound home = once_settles (λ last. last) s is_sound home (λ s' now-sound now-home falls. absurd (omega arith))
+      settle_settles (suc n) s under is_sound home = once_settles (settle t rule n) s is_sound home (λ s' now-sound now-home falls. settle_settles n s' (omega arith) now-sound now-home)
 
       abbrev settles : (s : S) → sound s → rule (t.home s) ≡ true → Settles s (settled t rule s)
       settles s = settle_settles (t.back s) s (le_refl (t.back s))
@@ -105,7 +105,6 @@ module _ {S I : Type 0} (t : Steps S I) (rule : List I → Bool) where
           ComplicateKept t (Accepted t sound rule) s (settled_step t rule (record { answer = answer; tree = s' }))
       settled_complicate s s' true before (now-sound, (home, falls), longest) =
           let rest = settles s' now-sound (ap rule home ∙ before.home) in
-          let no_rise = rest.no_rise in
           let same_home = rest.same_home ∙ home in
           (record { is_sound = rest.is_sound; candidate = rest.accepted; home = ap rule same_home ∙ before.home }, (same_home, omega arith), rest.same_longest ∙ longest)
       settled_complicate s s' false before (now-sound, (shown, home, at_home, falls), longest) =

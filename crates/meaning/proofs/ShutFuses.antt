@@ -41,9 +41,9 @@ module _ {S I : Type 0} (t : Steps S I) where
         r = (fuse_steps t).complicate f
 
         by : (answer : Bool) → ComplicateKept (fuse_steps t) (fuse_sound sound) f (step answer r.tree) → (answer ≡ false → Shut r.tree) → Home (cond answer (next r.tree) r.tree)
-        by true kept shut = let falls = kept.1.1 in home r.tree kept.0 (omega arith)
+        by true kept shut = home r.tree kept.0 (omega arith)
         by false kept shut = (kept.0, shut refl)
 
     pub led_rests : (n : ℕ) (f : FuseTree S) → sound f.inner → (fuse_steps t).back f ≤ n → Home (settle (fuse_steps t) (λ items. false) n f)
-    led_rests zero f is_sound enough = led_on 0 f (λ last. last) is_sound enough (λ now still less. absurd (omega (arith, less)))
-    led_rests (suc n) f is_sound enough = led_on (suc n) f (settle (fuse_steps t) (λ items. false) n) is_sound enough (λ now still less. led_rests n now still (omega (arith, less)))
+    led_rests zero f is_sound enough = led_on 0 f (λ last. last) is_sound enough (λ now still less. absurd (omega arith))
+    led_rests (suc n) f is_sound enough = led_on (suc n) f (settle (fuse_steps t) (λ items. false) n) is_sound enough (λ now still less. led_rests n now still (omega arith))

@@ -94,10 +94,10 @@ lacking_each short (suc n) (x ∷ xs) = ap (cond (short x) true) (lacking_each s
 
 -- where the first n slots are enough, each of them is there and is enough for its strategy
 pub slot_enough : {S : Type 0} (short : ℕ → S → Bool) (n i : ℕ) → i < n → (xs : List S) → lacking_by_number short n xs ≡ false → Slot (λ x. short i x ≡ false) i xs
-slot_enough short zero i below xs enough = absurd (omega (arith, below))
+slot_enough short zero i below xs enough = absurd (omega arith)
 slot_enough short (suc n) i below [] enough = absurd (true≢false enough)
 slot_enough short (suc n) zero below (x ∷ xs) enough = (neither (short 0 x) _ enough).0
-slot_enough short (suc n) (suc i) below (x ∷ xs) enough = slot_enough (λ j. short (suc j)) n i (omega (arith, below)) xs (neither (short 0 x) _ enough).1
+slot_enough short (suc n) (suc i) below (x ∷ xs) enough = slot_enough (λ j. short (suc j)) n i (omega arith) xs (neither (short 0 x) _ enough).1
 
 pub lacking_changed : {S : Type 0} (short : ℕ → S → Bool) (change : S → S) → ((j : ℕ) (x : S) → short j (change x) ≡ short j x) → (n i : ℕ) (xs : List S) → lacking_by_number short n (change_at change xs i) ≡ lacking_by_number short n xs
 lacking_changed short change same zero i xs = refl

@@ -87,14 +87,14 @@ module _ {X S I : Type 0} (t : Steps S I) (rule : List I → Bool) (grows : Grow
 
   try_same : (next other : Grows X S) (r : RunnerState X) (s : S) → ((r' : RunnerState X) (s' : S) → r'.rejections < r.rejections → next r' s' ≡ other r' s') →
       try_once t rule grows next r s ≡ try_once t rule grows other r s
-  try_same next other r s same = judged_same next other (grows r s) (grows r s).answer (λ r' s' less. same r' s' (omega (arith, less, calm r s)))
+  try_same next other r s same = judged_same next other (grows r s) (grows r s).answer (λ r' s' less. same r' s' (omega (arith, calm r s)))
 
   tries_enough : (n m : ℕ) (r : RunnerState X) (s : S) → r.rejections ≤ n → r.rejections ≤ m → tries t rule grows n r s ≡ tries t rule grows m r s
   tries_enough zero zero r s under over = refl
-  tries_enough zero (suc m) r s under over = try_same (given_up t NoneLeft) (tries t rule grows m) r s (λ r' s' less. absurd (omega (arith, less, under)))
-  tries_enough (suc n) zero r s under over = try_same (tries t rule grows n) (given_up t NoneLeft) r s (λ r' s' less. absurd (omega (arith, less, over)))
-  tries_enough (suc n) (suc m) r s under over = try_same (tries t rule grows n) (tries t rule grows m) r s (λ r' s' less. tries_enough n m r' s' (omega (arith, less, under)) (omega (arith, less, over)))
+  tries_enough zero (suc m) r s under over = try_same (given_up t NoneLeft) (tries t rule grows m) r s (λ r' s' less. absurd (omega arith))
+  tries_enough (suc n) zero r s under over = try_same (tries t rule grows n) (given_up t NoneLeft) r s (λ r' s' less. absurd (omega arith))
+  tries_enough (suc n) (suc m) r s under over = try_same (tries t rule grows n) (tries t rule grows m) r s (λ r' s' less. tries_enough n m r' s' (omega arith) (omega arith))
 
   pub tried_again : (r : RunnerState X) (s : S) → tried t rule grows r s ≡ try_once t rule grows (tried t rule grows) r s
   tried_again r s = tries_enough r.rejections (suc r.rejections) r s (le_refl r.rejections) (omega arith) ∙
-      try_same (tries t rule grows r.rejections) (tried t rule grows) r s (λ r' s' less. tries_enough r.rejections r'.rejections r' s' (omega (arith, less)) (le_refl r'.rejections))
+      try_same (tries t rule grows r.rejections) (tried t rule grows) r s (λ r' s' less. tries_enough r.rejections r'.rejections r' s' (omega arith) (le_refl r'.rejections))

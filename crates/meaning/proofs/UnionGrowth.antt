@@ -41,7 +41,7 @@ module _ {T I P : Type 0} {table : ℕ → Steps T I} {sound : ℕ → ℕ → T
     one_waits : (i : ℕ) (r : RunnerState X) (s : T) → i < count → short p count s ≡ false → Below i s → Below (suc i) (wait p X w i r s)
     one_waits i r s few enough below = everywhere (λ j. j < suc i → sound limit j (wait p X w i r s)) i
         (λ low. roots.waits p X w limit count i (fits i few) few r s enough)
-        (λ j other low. (roots.waits_apart p X w limit i j other r s).still_sound (below j (omega (arith, other, low))))
+        (λ j other low. (roots.waits_apart p X w limit i j other r s).still_sound (below j (omega arith)))
 
     abbrev PickGrew : ℕ → T → Grown → Type 0
     PickGrew pick now = Gives (Rooted (table pick) (sound limit pick) now × Below pick now) (λ cause. cause ≡ Slots → ⊥)
@@ -61,7 +61,7 @@ module _ {T I P : Type 0} {table : ℕ → Steps T I} {sound : ℕ → ℕ → T
         Rooted (union_steps table start) (union_sound table sound) (holding (record { options = s; pick = pick; min_pick = 0; prev_pick = None; returned = false; longest = limit }))
     picked_rooted pick s root below = record {
       is_sound = record {
-        each = everywhere (λ j. j ≤ pick → sound limit j s) pick (λ low. root.is_sound) (λ j other low. below j (omega (arith, other, low)));
+        each = everywhere (λ j. j ≤ pick → sound limit j s) pick (λ low. root.is_sound) (λ j other low. below j (omega arith));
         lowest = omega arith;
         below = le_refl pick;
         shown_grown = root.is_grown;
@@ -86,7 +86,7 @@ module _ {T I P : Type 0} {table : ℕ → Steps T I} {sound : ℕ → ℕ → T
     drawn_given weights u r (Ok draw) range enough =
         let pick = pick_for weights draw in
         let o = picking pick 0 r u.options in
-        grown_given pick u r o o.answer (picking_grew pick 0 pick (omega arith) (range draw refl) r u.options enough (λ j low. absurd (omega (arith, low)))) (picking_kept pick 0 r u.options)
+        grown_given pick u r o o.answer (picking_grew pick 0 pick (omega arith) (range draw refl) r u.options enough (λ j low. absurd (omega arith))) (picking_kept pick 0 r u.options)
 
 pub union_roots : {T I P Q : Type 0} {table : ℕ → Steps T I} {sound : ℕ → ℕ → T → Type 0} {short : P → ℕ → T → Bool} {grow : TableGrowth P T} {wait : TableWait P T} {stated : P → ℕ → ℕ}
     (start : ℕ → T → T) (under : Q → P) (weights : Q → List ℕ) → ((q : Q) → (0 < sum (weights q)) × (sum (weights q) < 2 ^ 64)) → OptionsRoot table sound short grow wait stated →

@@ -56,8 +56,8 @@ module _ {T I : Type 0} {table : ℕ → Steps T I} {start : ℕ → T → T} {s
   }
   sought_on limit low n s false grown next later = record {
     still_sound = λ j is_sound. later.still_sound j (start_sound limit (low + n) s j is_sound);
-    above = λ j high. apart_then (keep.starts_apart limit (low + n) j (λ e. omega arith) s) (later.above j (omega (arith, high)));
-    found = λ e. let (least, under, is_grown) = later.found e in (least, omega (arith, under), is_grown);
+    above = λ j high. apart_then (keep.starts_apart limit (low + n) j (λ e. omega arith) s) (later.above j (omega arith));
+    found = λ e. let (least, under, is_grown) = later.found e in (least, omega arith, is_grown);
   }
 
   sought : (limit low n : ℕ) (s : T) → Sought limit low n s (seek table start low n s)
@@ -83,7 +83,7 @@ module _ {T I : Type 0} {table : ℕ → Steps T I} {start : ℕ → T → T} {s
     still j low = touched_sound table (sound u.longest) ask.touched j (is_sound.each j low)
 
     still_below : (j : ℕ) → j ≤ u.pick → sound u.longest j now
-    still_below j low = let below = is_sound.below in still j (omega (arith, low, below))
+    still_below j low = still j (omega arith)
 
     still_grown : (table u.pick).grown now ≡ true
     still_grown = ask.same_grown u.pick ∙ is_sound.shown_grown
@@ -97,7 +97,7 @@ module _ {T I : Type 0} {table : ℕ → Steps T I} {start : ℕ → T → T} {s
 
     -- a search below it leaves the pick apart
     pick_apart : (w : Walked T) → Sought u.longest u.min_pick (u.pick - u.min_pick) now w → Apart (table u.pick) (sound u.longest u.pick) now w.elements
-    pick_apart w sought = let lowest = is_sound.lowest in sought.above u.pick (omega (arith, lowest))
+    pick_apart w sought = sought.above u.pick (omega arith)
 
     -- the pick answered false
     module _ (step : Simplifies (meant (table u.pick) u.options) false (meant (table u.pick) now)) where
@@ -111,7 +111,7 @@ module _ {T I : Type 0} {table : ℕ → Steps T I} {start : ℕ → T → T} {s
           let (least, under, is_grown) = w.found refl in
           let lowest = is_sound.lowest in
           let apart = pick_apart _ w in
-          (record { each = λ j low. w.still_sound j (still_below j low); lowest = least; below = omega (arith, under, lowest); shown_grown = is_grown; home_grown = apart.same_grown ∙ still_grown }, apart_candidate apart ∙ step.0, refl)
+          (record { each = λ j low. w.still_sound j (still_below j low); lowest = least; below = omega arith; shown_grown = is_grown; home_grown = apart.same_grown ∙ still_grown }, apart_candidate apart ∙ step.0, refl)
       went_down_kept s place false w =
           let apart = pick_apart _ w in
           let grown = apart.same_grown ∙ still_grown in
@@ -142,7 +142,7 @@ module _ {T I : Type 0} {table : ℕ → Steps T I} {start : ℕ → T → T} {s
         let own = is_sound.each u.pick is_sound.below in
         let fits = ((keep.keeps u.longest).each u.pick).fits u.options own in
         let limited = keep.limited u.longest u.pick u.options own in
-        omega (arith, fits, limited);
+        omega arith;
     simplify = λ u is_sound.
         let keeps = keep.keeps u.longest in
         let own = is_sound.each u.pick is_sound.below in

@@ -72,4 +72,4 @@ vec_roots {T} {I} {P} {Q} {table} {sound} {short} {g} {stated} under low high si
     given q X w r v enough =
         let (slots, room) = slots_and_room (short (under q)) (stated (under q)) (high q) v.tree.elements enough in
         sized_given roots (under q) X w (low q) (high q) (longest q) room (advanced w r) v.tree slots
-        (drawn (low q) (high q) (word w r.source)) (drawn_range (low q) (high q) (sizes q).0 (let few = (sizes q).1 in omega (arith, few)) (word w r.source))
+        (drawn (low q) (high q) (word w r.source)) (drawn_range (low q) (high q) (sizes q).0 (let few = (sizes q).1 in omega arith) (word w r.source))

@@ -99,11 +99,10 @@ module _ {T I : Type 0} (table : ℕ → Steps T I) (sound : ℕ → T → Type 
       let tests = and_parts (ltb i (length v.included)) (not (eqb (members v.included) v.min_size)) may in
       let below = ltb-true i (length v.included) tests.0 in
       let more = eqb-false (members v.included) v.min_size (not-true _ tests.1) in
-      let enough = is_sound.enough in
       let member = ahead i (le_refl i) below in
       let less = members_less v.included i member in (
         with_included v i false (DeleteElement (i + 1)) (Some (DeleteElement i)) is_sound
-            (omega (arith, less, enough, more))
+            (omega arith)
             (λ j past under. get_or-set_other v.included i j false false (λ e. omega arith) ∙ ahead j (omega arith) (rw length-set at under))
             (rw length-set below, get_or-set_same v.included i false false below),
         ap (joined (shown v.elements) 0) (deleted_and_back v.included i member),
@@ -117,9 +116,8 @@ module _ {T I : Type 0} (table : ℕ → Steps T I) (sound : ℕ → T → Type 
 
   put_back_sound : (v : VecTree T) (i : ℕ) → Sound v → Sound (record { elements = v.elements; included = set v.included i true; min_size = v.min_size; shrink = v.shrink; prev_shrink = None; longest = v.longest })
   put_back_sound v i is_sound =
-      let enough = is_sound.enough in
       let more = members_put v.included i in
-      with_included v i true v.shrink None is_sound (omega (arith, enough, more)) (ahead_back v.shrink v.included i is_sound.ahead) tt
+      with_included v i true v.shrink None is_sound (omega arith) (ahead_back v.shrink v.included i is_sound.ahead) tt
 
   -- complicate, where the noted element was asked
   module _ (v : VecTree T) (i : ℕ) (s : T) (touched : Touched table sound i v.elements s) where
@@ -169,7 +167,7 @@ module _ {T I : Type 0} (table : ℕ → Steps T I) (sound : ℕ → T → Type 
     vector_fits v is_sound =
         let each = λ (i : ℕ) (below : i < length v.included). (keeps.each i).fits v.elements (is_sound.each i below) in
         let fits = joined_fits (shown v.elements) (λ i. (table i).longest v.elements) (length v.included) each 0 v.included (omega arith) in
-        let room = is_sound.room in omega (arith, fits, room)
+        omega arith
 
     pub vector_keeps : Keeps vector Sound
     vector_keeps = record {
