@@ -32,10 +32,10 @@ record Clear (m i : ℕ) (bs : List Bool) : Type 0 where
   none : (j : ℕ) → i ≤ j → j < length bs → get_or bs j false ≡ false
 
 taken_clear : (m i : ℕ) (bs : List Bool) → Clear (suc m) i bs → Clear m (suc i) (set bs i true)
-taken_clear m i bs clear = let inside = clear.inside in record { inside = rw length-set (omega (arith, inside)); none = λ j past below. grind (arith, length-set, get_or-set_other, clear.none j) }
+taken_clear m i bs clear = let inside = clear.inside in record { inside = rw length-set (omega arith); none = λ j past below. grind (arith, length-set, get_or-set_other, clear.none j) }
 
 passed_clear : (m i : ℕ) (bs : List Bool) → Clear (suc m) i bs → Clear m (suc i) bs
-passed_clear m i bs clear = let inside = clear.inside in record { inside = omega (arith, inside); none = λ j past below. clear.none j (omega arith) below }
+passed_clear m i bs clear = let inside = clear.inside in record { inside = omega arith; none = λ j past below. clear.none j (omega arith) below }
 
 none_clear : (min max size : ℕ) → min ≤ max → max ≤ size → Clear (max - min) min (replicate size false)
 none_clear min max size ordered within = let all = length-replicate size false in record { inside = omega arith; none = λ j past below. get_or-replicate size j false false (omega arith) }
@@ -49,8 +49,7 @@ module _ {X : Type 0} (w : Words X) (low cursor longest : ℕ) where
   samples m zero i r bs few wanted clear large small = (bits_sound low cursor longest bs (omega arith) (omega arith), le_refl r.rejections)
   samples zero (suc k) i r bs few wanted clear large small = absurd (omega arith)
   samples (suc m) (suc k) i r bs few wanted clear large small =
-      let inside = clear.inside in
-      let more = members_more bs i (omega (arith, inside)) (clear.none i (le_refl i) (omega (arith, inside))) in
+      let more = members_more bs i (omega arith) (clear.none i (le_refl i) (omega arith)) in
       drawn_on (Sound low cursor longest) (drawn 0 m (word w r.source)) r' bs _
       (λ v drew. cond_both (ltb v (suc k)) (sample_from w m k (suc i) r' (set bs i true)) (sample_from w m (suc k) (suc i) r' bs) (Drawn r)
       (λ taken. samples m k (suc i) r' (set bs i true) (omega arith) (omega arith) (taken_clear m i bs clear) (omega arith) (omega arith))
@@ -73,19 +72,18 @@ flips w cursor longest (suc n) i r bs room = drawn_on (Sound 0 cursor longest) (
 
 module _ {X : Type 0} (w : Words X) (min max size : ℕ) (r : RunnerState X) where
   flipped_sound : Draws (Sound 0 min (max - min)) r.rejections (flipped w min max size r)
-  flipped_sound = let none = no_members size in flips w min (max - min) (max - min) min r (replicate size false) (omega (arith, none))
+  flipped_sound = let none = no_members size in flips w min (max - min) (max - min) min r (replicate size false) (omega arith)
 
   module _ (low high : ℕ) (can : Sampleable min max size low high) where
     sized_sound : (k : ℕ) → (low ≤ k) × (k ≤ high) → Draws (Sound low min high) r.rejections (sample_from w (max - min) k min (advanced w r) (replicate size false))
     sized_sound k (large, small) =
         let inside = can.inside in
         let none = no_members size in
-        samples w low min high (max - min) k min (advanced w r) (replicate size false) (omega (arith, inside)) (omega arith) (none_clear min max size can.bits inside) (omega (arith, none)) (omega (arith, none))
+        samples w low min high (max - min) k min (advanced w r) (replicate size false) (omega arith) (omega arith) (none_clear min max size can.bits inside) (omega arith) (omega arith)
 
     sampled_sound : Draws (Sound low min high) r.rejections (sampled w min max size low high r)
     sampled_sound =
-        let inside = can.inside in
-        let range = drawn_range low high can.sizes (omega (arith, inside)) (word w r.source) in
+        let range = drawn_range low high can.sizes (omega arith) (word w r.source) in
         drawn_on (Sound low min high) (drawn low high (word w r.source)) (advanced w r) (replicate size false) _ (λ k drew. sized_sound k (range k drew))
 
 pub bits_roots : {P : Type 0} (min max size : P → ℕ) → Roots set_steps set_sound (λ p s. false) (bits_growth min max size) (bits_stated min max)

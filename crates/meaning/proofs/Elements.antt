@@ -51,7 +51,7 @@ module _ {T I P : Type 0} {table : ℕ → Steps T I} {sound : ℕ → T → Typ
         room =
             let before = together_same (λ j. (table j).longest now) (λ j. (table j).longest s) i (λ j below. (apart j (λ e. omega arith)).same_longest) in
             let room = elements.room in
-            omega (arith, room);
+            omega arith;
       }
 
   -- a vector of all of them is sound, wherever its cursor stands

@@ -19,9 +19,9 @@ members_put (b ∷ bs) (suc i) = let rest = members_put bs i in (omega arith, om
 
 -- a new member is one more
 pub members_more : (bs : List Bool) (i : ℕ) → i < length bs → get_or bs i false ≡ false → members (set bs i true) ≡ suc (members bs)
-members_more [] i below none = absurd (omega (arith, below))
+members_more [] i below none = absurd (omega arith)
 members_more (b ∷ bs) zero below none = rw none (omega arith)
-members_more (b ∷ bs) (suc i) below none = let rest = members_more bs i (omega (arith, below)) none in omega arith
+members_more (b ∷ bs) (suc i) below none = let rest = members_more bs i (omega arith) none in omega arith
 
 pub no_members : (n : ℕ) → members (replicate n false) ≡ 0
 no_members zero = refl
@@ -53,6 +53,6 @@ all_members zero = refl
 all_members (suc n) = let rest = all_members n in omega arith
 
 pub all_there : (n i : ℕ) → i < length (all_of n) → get_or (all_of n) i false ≡ true
-all_there zero i below = absurd (omega (arith, below))
+all_there zero i below = absurd (omega arith)
 all_there (suc n) zero below = refl
 all_there (suc n) (suc i) below = all_there n i (omega arith)

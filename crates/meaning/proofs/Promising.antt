@@ -50,7 +50,7 @@ module _ {S I : Type 0} (t : Steps S I) (sound : S → Type 0) where
 
   good_still : (what : Happening I) (s : S) (h : List (Event S I)) → Adds what s h → sound s → Good t sound s h → Good t sound s (still what s ∷ h)
   good_still what s h (goes_on, none, shows, one_way, comes) o g = record {
-    few = rw goes_on (let few = g.few in omega (arith, few));
+    few = rw goes_on (let few = g.few in omega arith);
     falses = rw goes_on (shows, g.falses);
     comes = comes;
     one_way = (one_way, g.one_way);

@@ -54,7 +54,7 @@ one_more : (start count i j : ℕ) (at : ℕ → ℕ) (items : List ℕ) → i �
 one_more start count i j at items from below shuffled =
     let all = shuffled.all in
     record {
-      all = simp length-append (omega (arith, all));
+      all = simp length-append (omega arith);
       first = λ k under. grind (arith, get_or_push, get_or_append_left, exchanged_first, exchanged_else, shuffled.first k);
       apart = λ k l same. sym (exchanged_twice i j k) ∙ ap (exchanged i j) (shuffled.apart _ _ same) ∙ exchanged_twice i j l;
       inside = λ k under. shuffled.inside (exchanged i j k) (exchanged_below i j count (omega arith) below k under);
@@ -69,12 +69,11 @@ record Subset (start count low high : ℕ) (items : List ℕ) : Type 0 where
 
 shuffled_subset : (start count low high n : ℕ) (at : ℕ → ℕ) (items : List ℕ) → (low ≤ n) × (n ≤ high) → n ≤ count → Shuffled start count n at items → Subset start count low high items
 shuffled_subset start count low high n at items (large, small) fits shuffled =
-    let all = shuffled.all in
     record {
-      enough = omega (arith, all);
-      room = omega (arith, all);
-      distinct = λ i j i-below j-below same. shuffled.apart i j (sym (shuffled.first i (omega (arith, all))) ∙ same ∙ shuffled.first j (omega (arith, all)));
-      inside = λ i below. rw (shuffled.first i (omega (arith, all))) (shuffled.inside i (omega (arith, all)));
+      enough = omega arith;
+      room = omega arith;
+      distinct = λ i j i-below j-below same. shuffled.apart i j (sym (shuffled.first i (omega arith)) ∙ same ∙ shuffled.first j (omega arith));
+      inside = λ i below. rw (shuffled.first i (omega arith)) (shuffled.inside i (omega arith));
     }
 
 module _ {X : Type 0} (w : Words X) (start count low high : ℕ) (can : Choosable count low high) where
@@ -97,8 +96,7 @@ module _ {X : Type 0} (w : Words X) (start count low high : ℕ) (can : Choosabl
 
   sized_subset : (r : RunnerState X) (n : ℕ) → (low ≤ n) × (n ≤ high) → Drawn r (shuffle_from w count n 0 (λ k. start + k) (advanced w r) [])
   sized_subset r n size =
-      let enough = can.enough in
-      shuffles n size (omega (arith, enough)) n 0 (λ k. start + k) (advanced w r) [] (omega arith) (unshuffled start count)
+      shuffles n size (omega arith) n 0 (λ k. start + k) (advanced w r) [] (omega arith) (unshuffled start count)
 
   chosen_subset : (r : RunnerState X) → Drawn r (chosen w start count low high r)
   chosen_subset r =
