@@ -32,10 +32,10 @@ record Clear (m i : ℕ) (bs : List Bool) : Type 0 where
   none : (j : ℕ) → i ≤ j → j < length bs → get_or bs j false ≡ false
 
 taken_clear : (m i : ℕ) (bs : List Bool) → Clear (suc m) i bs → Clear m (suc i) (set bs i true)
-taken_clear m i bs clear = let inside = clear.inside in record { inside = rw length-set (omega arith); none = λ j past below. grind (arith, length-set, get_or-set_other, clear.none j) }
+taken_clear m i bs clear = record { inside = rw length-set (omega arith); none = λ j past below. grind (arith, length-set, get_or-set_other, clear.none j) }
 
 passed_clear : (m i : ℕ) (bs : List Bool) → Clear (suc m) i bs → Clear m (suc i) bs
-passed_clear m i bs clear = let inside = clear.inside in record { inside = omega arith; none = λ j past below. clear.none j (omega arith) below }
+passed_clear m i bs clear = record { inside = omega arith; none = λ j past below. clear.none j (omega arith) below }
 
 none_clear : (min max size : ℕ) → min ≤ max → max ≤ size → Clear (max - min) min (replicate size false)
 none_clear min max size ordered within = let all = length-replicate size false in record { inside = omega arith; none = λ j past below. get_or-replicate size j false false (omega arith) }
@@ -77,9 +77,8 @@ module _ {X : Type 0} (w : Words X) (min max size : ℕ) (r : RunnerState X) whe
   module _ (low high : ℕ) (can : Sampleable min max size low high) where
     sized_sound : (k : ℕ) → (low ≤ k) × (k ≤ high) → Draws (Sound low min high) r.rejections (sample_from w (max - min) k min (advanced w r) (replicate size false))
     sized_sound k (large, small) =
-        let inside = can.inside in
         let none = no_members size in
-        samples w low min high (max - min) k min (advanced w r) (replicate size false) (omega arith) (omega arith) (none_clear min max size can.bits inside) (omega arith) (omega arith)
+        samples w low min high (max - min) k min (advanced w r) (replicate size false) (omega arith) (omega arith) (none_clear min max size can.bits can.inside) (omega arith) (omega arith)
 
     sampled_sound : Draws (Sound low min high) r.rejections (sampled w min max size low high r)
     sampled_sound =

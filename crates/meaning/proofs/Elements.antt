@@ -50,7 +50,6 @@ module _ {T I P : Type 0} {table : ℕ → Steps T I} {sound : ℕ → T → Typ
             (λ j other below. let standing = elements.each j (omega arith) in ((apart j other).still_sound standing.0, (apart j other).same_grown ∙ standing.1));
         room =
             let before = together_same (λ j. (table j).longest now) (λ j. (table j).longest s) i (λ j below. (apart j (λ e. omega arith)).same_longest) in
-            let room = elements.room in
             omega arith;
       }
 
@@ -62,7 +61,7 @@ module _ {T I P : Type 0} {table : ℕ → Steps T I} {sound : ℕ → T → Typ
     each = λ i below. elements.each i (rw all_length at below);
     ahead = all_ahead shrink n;
     noted = tt;
-    room = let room = elements.room in rw (all_length n) (omega arith);
+    room = rw (all_length n) (omega arith);
   }
 
   -- from the runner and table that a growth starts with

@@ -193,6 +193,7 @@ kept_tells t f x (Some final) h = f final.inner h.0.0.0
 flat_tells : {M S J I : Type 0} (source : Steps M J) (t : Steps S I) {P Q : S → Type 0} {source_sound source-shows : M → Type 0} → ((s : M) → source_sound s → source-shows s) → ((s : S) → P s → Q s) → (x : FlatTree M S J) → FlatSound t (Standing t P) (Standing source source_sound) x → FlatShown source-shows Q x
 flat_tells source t source-tells tells x h = (source-tells x.meta.inner h.source.0, tells x.current.inner h.current.0.0, kept_tells t tells x x.final_complication h.way_back)
 
+-- as records: told as functions of a state, their clauses take more steps to compile than the check has
 record Shows {S I P : Type 0} {t : Steps S I} {short : P → S → Bool} {g : Growth P S} {stated : P → ℕ} (pile : Pile S I P t short g stated) : Type 0 where
   tells : (s : S) → Sound pile s → Shown pile s
 

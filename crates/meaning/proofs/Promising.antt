@@ -30,14 +30,14 @@ module _ {S I : Type 0} (t : Steps S I) (sound : S → Type 0) where
 
   good_complicate : (s s' : S) (b : Bool) (h : List (Event S I)) → sound s' → Complicates (meant t s) b (meant t s') → Good t sound s' h → Good t sound s (step complicate s (record { answer = b; tree = s' }) ∷ h)
   good_complicate s s' true h o l g = record {
-    few = (let a = g.few in let b = l.1 in omega arith);
+    few = omega arith;
     falses = (tt, subst (λ c. FalsesShow t c (since h)) l.0 g.falses);
     comes = subst (λ c. ComesTo t c h) l.0 g.comes;
     one_way = (tt, g.one_way);
     through = (o, g.through);
   }
   good_complicate s s' false h o l g = record {
-    few = (let a = g.few in let b = l.3 in omega arith);
+    few = omega arith;
     falses = (l.0 ∙ l.2, subst (λ c. FalsesShow t c (since h)) l.1 g.falses);
     comes = l.0 ∙ l.2;
     one_way = (tt, g.one_way);
@@ -50,7 +50,7 @@ module _ {S I : Type 0} (t : Steps S I) (sound : S → Type 0) where
 
   good_still : (what : Happening I) (s : S) (h : List (Event S I)) → Adds what s h → sound s → Good t sound s h → Good t sound s (still what s ∷ h)
   good_still what s h (goes_on, none, shows, one_way, comes) o g = record {
-    few = rw goes_on (let few = g.few in omega arith);
+    few = rw goes_on (omega arith);
     falses = rw goes_on (shows, g.falses);
     comes = comes;
     one_way = (one_way, g.one_way);
@@ -59,15 +59,13 @@ module _ {S I : Type 0} (t : Steps S I) (sound : S → Type 0) where
 
 -- complicate until false leads home, in at most as many steps as steps back say
 
-leads_on : {S I : Type 0} (t : Steps S I) (s s' : S) (n : ℕ) (b : Bool) → (t.complicate s).answer ≡ b → (t.complicate s).tree ≡ s' → Complicates (meant t s) b (meant t s') → t.back s ≤ n → (t.back s' < n → (m : ℕ) × Leads t m s' (t.home s')) → (m : ℕ) × Leads t m s (t.home s)
-leads_on t s s' n true e e' l z rest =
-    let q = rest (omega arith) in
-    (suc q.0, (e, subst (λ x. Leads t q.0 x (t.home s)) (sym e') (subst (λ c. Leads t q.0 s' c) l.0 q.1)))
-leads_on t s s' n false e e' l z rest = (zero, (e, ap t.candidate e' ∙ l.0 ∙ l.2))
+leads_on : {S I : Type 0} (t : Steps S I) (s : S) (n : ℕ) (b : Bool) → (let s' : S = (t.complicate s).tree in (t.complicate s).answer ≡ b → Complicates (meant t s) b (meant t s') → t.back s ≤ n → (t.back s' < n → (m : ℕ) × Leads t m s' (t.home s')) → (m : ℕ) × Leads t m s (t.home s))
+leads_on t s n true e l z rest = let q = rest (omega arith) in (suc q.0, (e, subst (λ c. Leads t q.0 (t.complicate s).tree c) l.0 q.1))
+leads_on t s n false e l z rest = (zero, (e, l.0 ∙ l.2))
 
 leads : {S I : Type 0} {t : Steps S I} {sound : S → Type 0} (k : Keeps t sound) (n : ℕ) (s : S) → sound s → t.back s ≤ n → (m : ℕ) × Leads t m s (t.home s)
-leads {t} k zero s o z = leads_on t s (t.complicate s).tree zero (t.complicate s).answer refl refl (k.complicate s o).1 z (λ l. absurd (omega arith))
-leads {t} k (suc n) s o z = leads_on t s (t.complicate s).tree (suc n) (t.complicate s).answer refl refl (k.complicate s o).1 z (λ l. leads k n (t.complicate s).tree (k.complicate s o).0 (omega arith))
+leads {t} k zero s o z = leads_on t s zero (t.complicate s).answer refl (k.complicate s o).1 z (λ l. absurd (omega arith))
+leads {t} k (suc n) s o z = leads_on t s (suc n) (t.complicate s).answer refl (k.complicate s o).1 z (λ l. leads k n (t.complicate s).tree (k.complicate s o).0 (omega arith))
 
 -- what a reduction from s keeps, of which the lists judged so far gave this result
 
@@ -180,13 +178,12 @@ module _ {S I : Type 0} {t : Steps S I} {sound : S → Type 0} (k : Keeps t soun
       let r = reduction t fails budget true [] s in
       let law = law_whole k fails budget s o l in
       let rest = next r.left law.sound_left in
-      let w = law.within in
       record {
         good = good_still t sound (start budget) s _ (refl, refl, tt, tt, tt) o (law.goes _ (good_still t sound (report (report_of r)) r.left (h r.left) (refl, refl, tt, tt, tt) law.sound_left rest.good));
         reports = λ b js. law.counts budget [] (still (report (report_of r)) r.left ∷ h r.left) refl (λ js' len gave. (
           record {
             counted = omega arith;
-            within = w;
+            within = law.within;
             gave = sym gave;
             way_back = λ spent. subst (λ (c : List I). (n : ℕ) × Leads t n r.left c) (law.at_home spent) (leads k (t.back r.left) r.left law.sound_left (le_refl _));
             comes = λ spent. subst (λ (c : List I). ComesTo t c (h r.left)) (law.at_home spent) rest.good.comes;

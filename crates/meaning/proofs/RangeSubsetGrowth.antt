@@ -52,7 +52,6 @@ unshuffled start count = record {
 
 one_more : (start count i j : ℕ) (at : ℕ → ℕ) (items : List ℕ) → i ≤ j → j < count → Shuffled start count i at items → Shuffled start count (suc i) (λ k. at (exchanged i j k)) (items ++ (at j ∷ []))
 one_more start count i j at items from below shuffled =
-    let all = shuffled.all in
     record {
       all = simp length-append (omega arith);
       first = λ k under. grind (arith, get_or_push, get_or_append_left, exchanged_first, exchanged_else, shuffled.first k);

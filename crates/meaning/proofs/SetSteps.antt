@@ -76,7 +76,6 @@ module _ {I : Type 0} where
   complicate_kept : (s : SetTree I) (last : Option ℕ) → SetSound (noting s last) → ComplicateKept bare SetSound (noting s last) (set_complicate (noting s last) last)
   complicate_kept s None is_sound = (is_sound, (refl, refl, refl, le_refl 0), refl)
   complicate_kept s (Some i) is_sound =
-      let enough = is_sound.enough in
       let more = members_put s.included i in
       (record { enough = omega arith; distinct = rw (length-set s.included i true) is_sound.distinct; room = is_sound.room }, (refl, omega arith), refl)
 

@@ -18,7 +18,7 @@ module _ {S I : Type 0} (t : Steps S I) (rule : List I → Bool) where
 
   stays_on : (s s' last : S) (accepts answer : Bool) → Falls (t.back s) answer (t.back s') → t.grown s' ≡ t.grown s → Stays s' last → Stays s (cond accepts s (cond answer last s'))
   stays_on s s' last true answer falls same later = stays_as_is s
-  stays_on s s' last false true falls same later = let no_rise = later.no_rise in record { no_rise = omega arith; same_grown = later.same_grown ∙ same }
+  stays_on s s' last false true falls same later = record { no_rise = omega arith; same_grown = later.same_grown ∙ same }
   stays_on s s' last false false falls same later = record { no_rise = falls; same_grown = same }
 
   module _ (total : Total t) where
@@ -72,7 +72,6 @@ module _ {S I : Type 0} (t : Steps S I) (rule : List I → Bool) where
     settles_on s s' last true answer e is_sound home kept later = record { is_sound = is_sound; accepted = e; same_home = refl; no_rise = le_refl (t.back s); same_longest = refl }
     settles_on s s' last false true e is_sound home (now-sound, (same_home, falls), same_longest) later =
         let rest = later now-sound (ap rule same_home ∙ home) falls in
-        let no_rise = rest.no_rise in
         record { is_sound = rest.is_sound; accepted = rest.accepted; same_home = rest.same_home ∙ same_home; no_rise = omega arith; same_longest = rest.same_longest ∙ same_longest }
     settles_on s s' last false false e is_sound home (now-sound, (shown, same_home, at_home, falls), same_longest) later = absurd (true≢false (sym (ap rule at_home ∙ home) ∙ e))
 

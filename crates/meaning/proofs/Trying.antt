@@ -32,7 +32,7 @@ module _ {S I P : Type 0} {t : Steps S I} {sound : S → Type 0} {short : P → 
 
   -- from a later start
   tried_from : (r r' : RunnerState X) (s s' : S) (o : Outcome X S) → r'.rejections ≤ r.rejections → ((q : P) → short q s' ≡ short q s) → Tried r' s' o → Tried r s o
-  tried_from r r' s s' o calm lasting rest = let later = rest.calm in record { grew = rest.grew; lasting = λ q. rest.lasting q ∙ lasting q; calm = omega arith }
+  tried_from r r' s s' o calm lasting rest = record { grew = rest.grew; lasting = λ q. rest.lasting q ∙ lasting q; calm = omega arith }
 
   up_tried : (fault : RejectFault) (r : RunnerState X) (s : S) → Tried r s (given_up t fault r s)
   up_tried fault r s = record { grew = (reject_is_not_slots, total.blanks s); lasting = λ q. grounds.blanked q s; calm = le_refl r.rejections }

@@ -109,7 +109,6 @@ module _ {T I : Type 0} {table : ℕ → Steps T I} {start : ℕ → T → T} {s
       went_down_kept : (s : T) (place : ℕ) (found : Bool) → (let w : Walked T = record { elements = s; place = place; found = found } in Sought u.longest u.min_pick (u.pick - u.min_pick) now w → SimplifyKept union Sound u (went_down u w))
       went_down_kept s place true w =
           let (least, under, is_grown) = w.found refl in
-          let lowest = is_sound.lowest in
           let apart = pick_apart _ w in
           (record { each = λ j low. w.still_sound j (still_below j low); lowest = least; below = omega arith; shown_grown = is_grown; home_grown = apart.same_grown ∙ still_grown }, apart_candidate apart ∙ step.0, refl)
       went_down_kept s place false w =
