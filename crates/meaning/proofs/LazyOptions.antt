@@ -20,48 +20,36 @@ use Rattle.meaning.specs.Lazies.Lazy.{uninitialized, initialized, failed}
 use Rattle.meaning.specs.TableLaws.{Limited}
 use Rattle.meaning.specs.LazyLaws.{lazy_sound}
 
-module _ {S I : Type 0} {t : Steps S I} (total : Total t) where
-  lazy_ends : (x : Lazy S) → Ends (lazy_steps t) x
-  lazy_ends (uninitialized s later) = le_refl 0
-  lazy_ends (initialized s) = total.ends s
-  lazy_ends (failed s) = le_refl 0
+-- what holds of an option that waits, of one that is initialized, and of one that failed
+pub by_lazy : {S : Type 0} (Holds : Lazy S → Type 0) → ((s : S) (later : Stepped S) → Holds (uninitialized s later)) → ((s : S) → Holds (initialized s)) → ((s : S) → Holds (failed s)) → (x : Lazy S) → Holds x
+by_lazy Holds waits grew fails (uninitialized s later) = waits s later
+by_lazy Holds waits grew fails (initialized s) = grew s
+by_lazy Holds waits grew fails (failed s) = fails s
 
-  lazy_simplify_grown : (x : Lazy S) → (lazy_steps t).grown ((lazy_steps t).simplify x).tree ≡ (lazy_steps t).grown x
-  lazy_simplify_grown (uninitialized s later) = refl
-  lazy_simplify_grown (initialized s) = total.simplify_grown s
-  lazy_simplify_grown (failed s) = refl
+pub lazy_total : {S I : Type 0} {t : Steps S I} → Total t → Total (lazy_steps t)
+lazy_total {t = t} total = record {
+  ends = by_lazy (Ends (lazy_steps t)) (λ s later. le_refl 0) total.ends (λ s. le_refl 0);
+  simplify_grown = by_lazy (λ x. (lazy_steps t).grown ((lazy_steps t).simplify x).tree ≡ (lazy_steps t).grown x) (λ s later. refl) total.simplify_grown (λ s. refl);
+  complicate_grown = by_lazy (λ x. (lazy_steps t).grown ((lazy_steps t).complicate x).tree ≡ (lazy_steps t).grown x) (λ s later. refl) total.complicate_grown (λ s. refl);
+  blank = by_lazy (λ x. (lazy_steps t).grown x ≡ false → Blank (lazy_steps t) x)
+      (λ s later e. record { shows_none = refl; home_none = refl; no_back = refl; no_longest = refl; no_simplify = refl; no_complicate = refl })
+      (λ s e. let b = total.blank s e in record { shows_none = b.shows_none; home_none = b.home_none; no_back = b.no_back; no_longest = b.no_longest; no_simplify = b.no_simplify; no_complicate = b.no_complicate })
+      (λ s e. record { shows_none = refl; home_none = refl; no_back = refl; no_longest = refl; no_simplify = refl; no_complicate = refl });
+  blanks = λ x. refl;
+}
 
-  lazy_complicate_grown : (x : Lazy S) → (lazy_steps t).grown ((lazy_steps t).complicate x).tree ≡ (lazy_steps t).grown x
-  lazy_complicate_grown (uninitialized s later) = refl
-  lazy_complicate_grown (initialized s) = total.complicate_grown s
-  lazy_complicate_grown (failed s) = refl
-
-  lazy_blank : (x : Lazy S) → (lazy_steps t).grown x ≡ false → Blank (lazy_steps t) x
-  lazy_blank (uninitialized s later) blank = record { shows_none = refl; home_none = refl; no_back = refl; no_longest = refl; no_simplify = refl; no_complicate = refl }
-  lazy_blank (initialized s) blank = let b = total.blank s blank in record { shows_none = b.shows_none; home_none = b.home_none; no_back = b.no_back; no_longest = b.no_longest; no_simplify = b.no_simplify; no_complicate = b.no_complicate }
-  lazy_blank (failed s) blank = record { shows_none = refl; home_none = refl; no_back = refl; no_longest = refl; no_simplify = refl; no_complicate = refl }
-
-  pub lazy_total : Total (lazy_steps t)
-  lazy_total = record { ends = lazy_ends; simplify_grown = lazy_simplify_grown; complicate_grown = lazy_complicate_grown; blank = lazy_blank; blanks = λ x. refl }
-
-module _ {S I : Type 0} {t : Steps S I} {sound : S → Type 0} (keeps : Keeps t sound) where
-  lazy_fits : (x : Lazy S) → lazy_sound sound x → length ((lazy_steps t).candidate x) ≤ (lazy_steps t).longest x
-  lazy_fits (uninitialized s later) is_sound = le_refl 0
-  lazy_fits (initialized s) is_sound = keeps.fits s is_sound
-  lazy_fits (failed s) is_sound = le_refl 0
-
-  lazy_simplify : (x : Lazy S) → lazy_sound sound x → SimplifyKept (lazy_steps t) (lazy_sound sound) x ((lazy_steps t).simplify x)
-  lazy_simplify (uninitialized s later) is_sound = (is_sound, (refl, inl refl), refl)
-  lazy_simplify (initialized s) is_sound = keeps.simplify s is_sound
-  lazy_simplify (failed s) is_sound = (tt, (refl, inl refl), refl)
-
-  lazy_complicate : (x : Lazy S) → lazy_sound sound x → ComplicateKept (lazy_steps t) (lazy_sound sound) x ((lazy_steps t).complicate x)
-  lazy_complicate (uninitialized s later) is_sound = (is_sound, (refl, refl, refl, le_refl 0), refl)
-  lazy_complicate (initialized s) is_sound = keeps.complicate s is_sound
-  lazy_complicate (failed s) is_sound = (tt, (refl, refl, refl, le_refl 0), refl)
-
-  pub lazy_keeps : Keeps (lazy_steps t) (lazy_sound sound)
-  lazy_keeps = record { fits = lazy_fits; simplify = lazy_simplify; complicate = lazy_complicate }
+pub lazy_keeps : {S I : Type 0} {t : Steps S I} {sound : S → Type 0} → Keeps t sound → Keeps (lazy_steps t) (lazy_sound sound)
+lazy_keeps {t = t} {sound = sound} keeps = record {
+  fits = by_lazy (λ x. lazy_sound sound x → length ((lazy_steps t).candidate x) ≤ (lazy_steps t).longest x) (λ s later is_sound. le_refl 0) keeps.fits (λ s is_sound. le_refl 0);
+  simplify = by_lazy (λ x. lazy_sound sound x → SimplifyKept (lazy_steps t) (lazy_sound sound) x ((lazy_steps t).simplify x))
+      (λ s later is_sound. (is_sound, (refl, inl refl), refl))
+      keeps.simplify
+      (λ s is_sound. (tt, (refl, inl refl), refl));
+  complicate = by_lazy (λ x. lazy_sound sound x → ComplicateKept (lazy_steps t) (lazy_sound sound) x ((lazy_steps t).complicate x))
+      (λ s later is_sound. (is_sound, (refl, refl, refl, le_refl 0), refl))
+      keeps.complicate
+      (λ s is_sound. (tt, (refl, refl, refl, le_refl 0), refl));
+}
 
 -- trees that are sound and state no more than a limit stay so; and an option states no more than its tree will
 pub limited_keeps : {S I : Type 0} {t : Steps S I} {sound : S → Type 0} → Keeps t sound → (limit : ℕ) → Keeps t (Limited t sound limit)
@@ -72,14 +60,13 @@ limited_keeps {t = t} keeps limit = record {
 }
 
 pub lazy_limited : {S I : Type 0} (t : Steps S I) (sound : S → Type 0) (limit : ℕ) (x : Lazy S) → lazy_sound (Limited t sound limit) x → (lazy_steps t).longest x ≤ limit
-lazy_limited t sound limit (uninitialized s later) is_sound = omega arith
-lazy_limited t sound limit (initialized s) is_sound = is_sound.1
-lazy_limited t sound limit (failed s) is_sound = omega arith
+lazy_limited t sound limit = by_lazy (λ x. lazy_sound (Limited t sound limit) x → (lazy_steps t).longest x ≤ limit) (λ s later is_sound. omega arith) (λ s is_sound. is_sound.1) (λ s is_sound. omega arith)
 
 limited_sound : {S I : Type 0} (t : Steps S I) (sound : S → Type 0) (limit : ℕ) (x : Lazy S) → (lazy_steps t).grown x ≡ true → (lazy_steps t).longest x ≤ limit → lazy_sound sound x → lazy_sound (Limited t sound limit) x
-limited_sound t sound limit (uninitialized s later) is_grown fits is_sound = absurd (false≢true is_grown)
-limited_sound t sound limit (initialized s) is_grown fits is_sound = (is_sound, fits)
-limited_sound t sound limit (failed s) is_grown fits is_sound = tt
+limited_sound t sound limit = by_lazy (λ x. (lazy_steps t).grown x ≡ true → (lazy_steps t).longest x ≤ limit → lazy_sound sound x → lazy_sound (Limited t sound limit) x)
+    (λ s later is_grown. absurd (false≢true is_grown))
+    (λ s is_grown fits is_sound. (is_sound, fits))
+    (λ s is_grown fits is_sound. tt)
 
 -- starting an option that is sound
 tried_sound : {S : Type 0} (sound : S → Type 0) (s place : S) (answer : Bool) → (let later : Stepped S = record { answer = answer; tree = s } in lazy_sound sound (uninitialized place later) → lazy_sound sound (started_as later))
@@ -87,9 +74,7 @@ tried_sound sound s place true is_sound = is_sound
 tried_sound sound s place false is_sound = tt
 
 pub started_sound : {S : Type 0} (sound : S → Type 0) (x : Lazy S) → lazy_sound sound x → lazy_sound sound (lazy_start x)
-started_sound sound (uninitialized s later) is_sound = tried_sound sound later.tree s later.answer is_sound
-started_sound sound (initialized s) is_sound = is_sound
-started_sound sound (failed s) is_sound = tt
+started_sound sound = by_lazy (λ x. lazy_sound sound x → lazy_sound sound (lazy_start x)) (λ s later. tried_sound sound later.tree s later.answer) (λ s is_sound. is_sound) (λ s is_sound. tt)
 
 -- an option's growth, by the answer of its tree's
 abbrev tried_by : {S : Type 0} → S → Grown → Lazy S

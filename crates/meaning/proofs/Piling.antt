@@ -1,12 +1,12 @@
 -- Every pile keeps its meaning, and so the promise.
 
-use Rattle.std.proofs.Common.{◌≡◌, ℕ, zero, suc, Bool, true, false, List, is_some, Some, None, Option}
+use Rattle.std.proofs.Common.{◌≡◌, ℕ, zero, suc, Bool, true, List, is_some, Some, None, Option}
 use Rattle.std.proofs.lemmas.Bool.{false≢true}
 use Rattle.draws.specs.Sources.{Words}
 use Rattle.draws.specs.Runners.{RunnerState}
 use Rattle.meaning.specs.Trees.{Steps, Total, Keeps}
 use Rattle.meaning.specs.Places.{Place}
-use Rattle.meaning.specs.PlaceLaws.{if_grown, WhereGrown}
+use Rattle.meaning.specs.PlaceLaws.{WhereGrown}
 use Rattle.meaning.specs.Growths.{Growth, Roots}
 use Rattle.meaning.specs.Tables.{TableGrowth}
 use Rattle.meaning.specs.TableLaws.{TableTotal, TableKeeps, TableRoots, Standing, Slot, Limited}
@@ -20,7 +20,6 @@ use Rattle.meaning.specs.Arrays.{as_vector, array_sound}
 use Rattle.meaning.specs.Fuses.{FuseTree}
 use Rattle.meaning.specs.SetLaws.{set_sound}
 use Rattle.meaning.specs.Lazies.{Lazy, TableWait}
-use Rattle.meaning.specs.Lazies.Lazy.{uninitialized, initialized, failed}
 use Rattle.meaning.specs.LazyLaws.{lazy_sound, OptionsKeep, OptionsRoot}
 use Rattle.meaning.specs.SliceOptions.{slice_options_sound}
 use Rattle.meaning.specs.PairOptions.{end_options_sound, pair_options_sound}
@@ -42,10 +41,10 @@ use Rattle.meaning.proofs.FilterMapLaws.{filter_map_total, filter_map_keeps, fil
 use Rattle.meaning.proofs.PairLaws.{end_total, end_keeps, end_roots, pair_total, pair_keeps, pair_roots}
 use Rattle.meaning.proofs.ArrayLaws.{array_total, array_keeps, array_roots}
 use Rattle.meaning.proofs.SetSteps.{set_total, set_keeps}
-use Rattle.meaning.proofs.SetShown.{set_shows_enough}
+use Rattle.meaning.proofs.SetShown.{by_place, set_shows_enough}
 use Rattle.meaning.proofs.BitSetGrowth.{bits_roots, sampled_roots}
 use Rattle.meaning.proofs.RangeSubsetGrowth.{subset_roots}
-use Rattle.meaning.proofs.LazyOptions.{lazy_total}
+use Rattle.meaning.proofs.LazyOptions.{by_lazy, lazy_total}
 use Rattle.meaning.proofs.SliceOptionLaws.{slice_options_keep, slice_options_root}
 use Rattle.meaning.proofs.PairOptionLaws.{end_options_keep, end_options_root, pair_options_keep, pair_options_root}
 use Rattle.meaning.proofs.UnionSteps.{union_total, union_keeps}
@@ -158,11 +157,7 @@ mutual
 
 -- a sound state shows what each layer is to show
 grown_tells : {B : Type 0} (P Q : B → Type 0) → ((b : B) → P b → Q b) → (p : Place B) → WhereGrown P p → WhereGrown Q p
-grown_tells P Q f p = by p.grown
-  where
-    by : (b : Bool) → if_grown b (P p.tree) → if_grown b (Q p.tree)
-    by true h = f p.tree h
-    by false h = tt
+grown_tells P Q f = by_place (λ p. WhereGrown P p → WhereGrown Q p) f (λ b h. tt)
 
 slot_tells : {S : Type 0} {P Q : S → Type 0} → ((s : S) → P s → Q s) → (i : ℕ) (xs : List S) → Slot P i xs → Slot Q i xs
 slot_tells {P = P} {Q = Q} f = along_slot P (Slot Q) (λ x xs. f x) (λ i x xs held. held)
@@ -179,9 +174,7 @@ map_tells None shown some e = absurd (false≢true some)
 map_tells (Some item) shown some e = e
 
 lazy_tells : {S I : Type 0} (t : Steps S I) {P Q : S → Type 0} → ((s : S) → P s → Q s) → (limit : ℕ) (x : Lazy S) → lazy_sound (Limited t P limit) x → LazyShown Q x
-lazy_tells t f limit (uninitialized s later) h = tt
-lazy_tells t f limit (initialized s) h = f s h.0
-lazy_tells t f limit (failed s) h = tt
+lazy_tells t {P} {Q} f limit = by_lazy (λ x. lazy_sound (Limited t P limit) x → LazyShown Q x) (λ s later h. tt) (λ s h. f s h.0) (λ s h. tt)
 
 union_tells : {T I : Type 0} {table : ℕ → Steps T I} {sounds : ℕ → ℕ → T → Type 0} {shows : ℕ → T → Type 0} → ((limit i : ℕ) (s : T) → sounds limit i s → shows i s) → (u : UnionTree T) → UnionSound table sounds u → UnionShown shows u
 union_tells f u h = λ i l. f u.longest i u.options (h.each i l)

@@ -10,6 +10,7 @@ use Rattle.std.proofs.lemmas.Bool.{false≢true}
 use Rattle.std.specs.List.{AllByRecursion}
 use Rattle.meaning.specs.Trees.{Stepped}
 use Rattle.meaning.specs.Places.{Place}
+use Rattle.meaning.specs.PlaceLaws.{holding}
 use Rattle.meaning.specs.Sets.{SetTree, set_complicate, set_steps}
 use Rattle.meaning.specs.SetLaws.{Distinct, set_sound, Naming, Once}
 use Rattle.meaning.specs.Vectors.{joined}
@@ -33,74 +34,56 @@ module _ {I : Type 0} (item : ℕ → I) where
   )
   shown_once n i (false ∷ bs) distinct within = shown_once n (suc i) bs distinct (omega arith)
 
+-- what holds of a grown place and of a blank one
+pub by_place : {B : Type 0} (Holds : Place B → Type 0) → ((b : B) → Holds (holding b)) → ((b : B) → Holds (record { grown = false; tree = b })) → (p : Place B) → Holds p
+by_place {B} Holds grown blank p = by p.grown p.tree
+  where
+    by : (is_grown : Bool) (b : B) → Holds (record { grown = is_grown; tree = b })
+    by true b = grown b
+    by false b = blank b
+
 module _ {I : Type 0} where
-  -- each law is told by whether the place is grown
-  abbrev place : Bool → SetTree I → Place (SetTree I)
-  place grown s = record { grown = grown; tree = s }
-
-  enough_at : (grown : Bool) (s : SetTree I) → grown ≡ true → set_sound (place grown s) → s.min_count ≤ length (set_steps.candidate (place grown s))
-  enough_at true s is_grown is_sound = let all = named_length s.item 0 s.included in omega arith
-  enough_at false s is_grown is_sound = absurd (false≢true is_grown)
-
-  once_at : (grown : Bool) (s : SetTree I) → set_sound (place grown s) → Once (set_steps.candidate (place grown s))
-  once_at true s is_sound = shown_once s.item (length s.included) 0 s.included is_sound.distinct (omega arith)
-  once_at false s is_sound = tt
-
   pub set_shows_enough : (s : Place (SetTree I)) → s.grown ≡ true → set_sound s → s.tree.min_count ≤ length (set_steps.candidate s)
-  set_shows_enough s = enough_at s.grown s.tree
+  set_shows_enough = by_place (λ s. s.grown ≡ true → set_sound s → s.tree.min_count ≤ length (set_steps.candidate s))
+      (λ s is_grown is_sound. let all = named_length s.item 0 s.included in omega arith)
+      (λ s is_grown. absurd (false≢true is_grown))
 
-  -- a step, by whether the place is grown: the fewest members stay as they are
-  simplify_minimum_at : (grown : Bool) (s : SetTree I) → (set_steps.simplify (place grown s)).tree.tree.min_count ≡ s.min_count
-  simplify_minimum_at true s = simplified (λ (stepped : Stepped (SetTree I)). stepped.tree.min_count ≡ s.min_count) s (λ i more member. refl) (λ i. refl) refl
-  simplify_minimum_at false s = refl
+  pub set_shows_once : (s : Place (SetTree I)) → set_sound s → Once (set_steps.candidate s)
+  set_shows_once = by_place (λ s. set_sound s → Once (set_steps.candidate s)) (λ s is_sound. shown_once s.item (length s.included) 0 s.included is_sound.distinct (omega arith)) (λ s is_sound. tt)
 
+  -- a step: the fewest members stay as they are
   complicated_minimum : (s : SetTree I) (last : Option ℕ) → (set_complicate s last).tree.min_count ≡ s.min_count
   complicated_minimum s None = refl
   complicated_minimum s (Some i) = refl
 
-  complicate_minimum_at : (grown : Bool) (s : SetTree I) → (set_steps.complicate (place grown s)).tree.tree.min_count ≡ s.min_count
-  complicate_minimum_at true s = complicated_minimum s s.prev_shrink
-  complicate_minimum_at false s = refl
-
   pub simplify_minimum : (s : Place (SetTree I)) → (set_steps.simplify s).tree.tree.min_count ≡ s.tree.min_count
-  simplify_minimum s = simplify_minimum_at s.grown s.tree
+  simplify_minimum = by_place (λ s. (set_steps.simplify s).tree.tree.min_count ≡ s.tree.min_count)
+      (λ s. simplified (λ (stepped : Stepped (SetTree I)). stepped.tree.min_count ≡ s.min_count) s (λ i more member. refl) (λ i. refl) refl)
+      (λ s. refl)
 
   pub complicate_minimum : (s : Place (SetTree I)) → (set_steps.complicate s).tree.tree.min_count ≡ s.tree.min_count
-  complicate_minimum s = complicate_minimum_at s.grown s.tree
-
-  pub set_shows_once : (s : Place (SetTree I)) → set_sound s → Once (set_steps.candidate s)
-  set_shows_once s = once_at s.grown s.tree
+  complicate_minimum = by_place (λ s. (set_steps.complicate s).tree.tree.min_count ≡ s.tree.min_count) (λ s. complicated_minimum s s.prev_shrink) (λ s. refl)
 
   module _ (Fit : I → Type 0) where
     -- a grown set
     abbrev Names : SetTree I → Type 0
-    Names s = Naming Fit (place true s)
+    Names s = Naming Fit (holding s)
 
-    fitting_at : (grown : Bool) (s : SetTree I) → Naming Fit (place grown s) → AllByRecursion Fit (set_steps.candidate (place grown s))
-    fitting_at true s names = shown_fit s.item Fit 0 s.included (λ j from below. names j (omega arith))
-    fitting_at false s names = tt
+    pub set_shows_fitting : (s : Place (SetTree I)) → Naming Fit s → AllByRecursion Fit (set_steps.candidate s)
+    set_shows_fitting = by_place (λ s. Naming Fit s → AllByRecursion Fit (set_steps.candidate s)) (λ s names. shown_fit s.item Fit 0 s.included (λ j from below. names j (omega arith))) (λ s names. tt)
 
     -- one number is included or not
     names_set : (s : SetTree I) (i : ℕ) (member : Bool) → Names s → (j : ℕ) → j < length (set s.included i member) → Fit (s.item j)
     names_set s i member names j below = names j (rw length-set at below)
 
-    simplify_names_at : (grown : Bool) (s : SetTree I) → Naming Fit (place grown s) → Naming Fit (set_steps.simplify (place grown s)).tree
-    simplify_names_at true s names = simplified (λ (stepped : Stepped (SetTree I)). Names stepped.tree) s (λ i more member. names_set s i false names) (λ i. names) names
-    simplify_names_at false s names = tt
-
     complicated_names : (s : SetTree I) (last : Option ℕ) → Names s → Names (set_complicate s last).tree
     complicated_names s None names = names
     complicated_names s (Some i) names = names_set s i true names
 
-    complicate_names_at : (grown : Bool) (s : SetTree I) → Naming Fit (place grown s) → Naming Fit (set_steps.complicate (place grown s)).tree
-    complicate_names_at true s names = complicated_names s s.prev_shrink names
-    complicate_names_at false s names = tt
-
-    pub set_shows_fitting : (s : Place (SetTree I)) → Naming Fit s → AllByRecursion Fit (set_steps.candidate s)
-    set_shows_fitting s = fitting_at s.grown s.tree
-
     pub simplify_names : (s : Place (SetTree I)) → Naming Fit s → Naming Fit (set_steps.simplify s).tree
-    simplify_names s = simplify_names_at s.grown s.tree
+    simplify_names = by_place (λ s. Naming Fit s → Naming Fit (set_steps.simplify s).tree)
+        (λ s names. simplified (λ (stepped : Stepped (SetTree I)). Names stepped.tree) s (λ i more member. names_set s i false names) (λ i. names) names)
+        (λ s names. tt)
 
     pub complicate_names : (s : Place (SetTree I)) → Naming Fit s → Naming Fit (set_steps.complicate s).tree
-    complicate_names s = complicate_names_at s.grown s.tree
+    complicate_names = by_place (λ s. Naming Fit s → Naming Fit (set_steps.complicate s).tree) (λ s. complicated_names s s.prev_shrink) (λ s names. tt)
