@@ -94,28 +94,26 @@ module _ {S I : Type 0} (t : Steps S I) (sound : S → Type 0) where
   -- an event that is no verdict, and what follows it
   law_step : (n : ℕ) (c : List I) (e : Event S I) (r : Reduction S I) → is_verdict e.what ≡ 0 → ((h : List (Event S I)) → Good t sound e.after h → Good t sound e.before (e ∷ h)) →
       ((budget : ℕ) (js : List (Judged I)) (h : List (Event S I)) → Reductions t budget js h → Reductions t budget js (e ∷ h)) → Law t sound n c e.after r → Law t sound n c e.before (preceded e r)
-  law_step n c e r none good counts law =
-      record {
-        sound_left = law.sound_left;
-        within = omega arith;
-        at_home = law.at_home;
-        goes = λ h g. good (r.own ++ h) (law.goes h g);
-        counts = λ budget js h d k. counts budget js (r.own ++ h) (law.counts budget js h d (λ js' len. k js' (omega arith)));
-      }
+  law_step n c e r none good counts law = record {
+    sound_left = law.sound_left;
+    within = omega arith;
+    at_home = law.at_home;
+    goes = λ h g. good (r.own ++ h) (law.goes h g);
+    counts = λ budget js h d k. counts budget js (r.own ++ h) (law.counts budget js h d (λ js' len. k js' (omega arith)));
+  }
 
   -- a verdict, and what follows it
   law_verdict : (n : ℕ) (f : Bool) (so_far : List I) (s : S) (r : Reduction S I) → sound s → Law t sound n (cond f (t.candidate s) so_far) s r → Law t sound (suc n) so_far s (preceded (still (verdict f) s) r)
-  law_verdict n f so_far s r o d =
-      record {
-        sound_left = d.sound_left;
-        within = omega arith;
-        at_home = d.at_home;
-        goes = λ h g. good_still t sound (verdict f) s (r.own ++ h) (refl, refl, tt, tt, tt) o (d.goes h g);
-        counts = λ budget js h e k.
-            let j : Judged I = record { list = t.candidate s; failed = f } in
-            let l = length-append js (j ∷ []) in
-            d.counts budget (js ++ (j ∷ [])) h (last_failed_more [] js j ∙ ap (λ (c : List I). cond f (t.candidate s) c) e) (λ js' len. k js' (omega arith));
-      }
+  law_verdict n f so_far s r o d = record {
+    sound_left = d.sound_left;
+    within = omega arith;
+    at_home = d.at_home;
+    goes = λ h g. good_still t sound (verdict f) s (r.own ++ h) (refl, refl, tt, tt, tt) o (d.goes h g);
+    counts = λ budget js h e k.
+        let j : Judged I = record { list = t.candidate s; failed = f } in
+        let l = length-append js (j ∷ []) in
+        d.counts budget (js ++ (j ∷ [])) h (last_failed_more [] js j ∙ ap (λ (c : List I). cond f (t.candidate s) c) e) (λ js' len. k js' (omega arith));
+  }
 
 module _ {S I : Type 0} {t : Steps S I} {sound : S → Type 0} (k : Keeps t sound) (fails : List I → Bool) where
   law_simplify : (n : ℕ) (c : List I) (s : S) (more : Reduction S I) → sound s → Law t sound n c (t.simplify s).tree more → Law t sound n c s (preceded (step simplify s (t.simplify s)) more)

@@ -51,13 +51,12 @@ unshuffled start count = record {
 }
 
 one_more : (start count i j : ℕ) (at : ℕ → ℕ) (items : List ℕ) → i ≤ j → j < count → Shuffled start count i at items → Shuffled start count (suc i) (λ k. at (exchanged i j k)) (items ++ (at j ∷ []))
-one_more start count i j at items from below shuffled =
-    record {
-      all = simp length-append (omega arith);
-      first = λ k under. grind (arith, get_or_push, get_or_append_left, exchanged_first, exchanged_else, shuffled.first k);
-      apart = λ k l same. sym (exchanged_twice i j k) ∙ ap (exchanged i j) (shuffled.apart _ _ same) ∙ exchanged_twice i j l;
-      inside = λ k under. shuffled.inside (exchanged i j k) (exchanged_below i j count (omega arith) below k under);
-    }
+one_more start count i j at items from below shuffled = record {
+  all = simp length-append (omega arith);
+  first = λ k under. grind (arith, get_or_push, get_or_append_left, exchanged_first, exchanged_else, shuffled.first k);
+  apart = λ k l same. sym (exchanged_twice i j k) ∙ ap (exchanged i j) (shuffled.apart _ _ same) ∙ exchanged_twice i j l;
+  inside = λ k under. shuffled.inside (exchanged i j k) (exchanged_below i j count (omega arith) below k under);
+}
 
 -- distinct numbers of a range, from low to high of them
 record Subset (start count low high : ℕ) (items : List ℕ) : Type 0 where
@@ -67,13 +66,12 @@ record Subset (start count low high : ℕ) (items : List ℕ) : Type 0 where
   inside : (i : ℕ) → i < length items → Within start count (get_or items i 0)
 
 shuffled_subset : (start count low high n : ℕ) (at : ℕ → ℕ) (items : List ℕ) → (low ≤ n) × (n ≤ high) → n ≤ count → Shuffled start count n at items → Subset start count low high items
-shuffled_subset start count low high n at items (large, small) fits shuffled =
-    record {
-      enough = omega arith;
-      room = omega arith;
-      distinct = λ i j i-below j-below same. shuffled.apart i j (sym (shuffled.first i (omega arith)) ∙ same ∙ shuffled.first j (omega arith));
-      inside = λ i below. rw (shuffled.first i (omega arith)) (shuffled.inside i (omega arith));
-    }
+shuffled_subset start count low high n at items (large, small) fits shuffled = record {
+  enough = omega arith;
+  room = omega arith;
+  distinct = λ i j i-below j-below same. shuffled.apart i j (sym (shuffled.first i (omega arith)) ∙ same ∙ shuffled.first j (omega arith));
+  inside = λ i below. rw (shuffled.first i (omega arith)) (shuffled.inside i (omega arith));
+}
 
 module _ {X : Type 0} (w : Words X) (start count low high : ℕ) (can : Choosable count low high) where
   abbrev Drawn : RunnerState X → Outcome X (List ℕ) → Type 0
@@ -94,8 +92,7 @@ module _ {X : Type 0} (w : Words X) (start count low high : ℕ) (can : Choosabl
             one_more start count i j at items from (omega arith) shuffled
 
   sized_subset : (r : RunnerState X) (n : ℕ) → (low ≤ n) × (n ≤ high) → Drawn r (shuffle_from w count n 0 (λ k. start + k) (advanced w r) [])
-  sized_subset r n size =
-      shuffles n size (omega arith) n 0 (λ k. start + k) (advanced w r) [] (omega arith) (unshuffled start count)
+  sized_subset r n size = shuffles n size (omega arith) n 0 (λ k. start + k) (advanced w r) [] (omega arith) (unshuffled start count)
 
   chosen_subset : (r : RunnerState X) → Drawn r (chosen w start count low high r)
   chosen_subset r =
