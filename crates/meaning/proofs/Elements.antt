@@ -1,7 +1,7 @@
 -- The first elements of a table, grown in order: what they are then, and what their growth keeps.
 
 use Rattle.std.proofs.Common.{◌≡◌, ℕ, suc, ◌<◌, ◌≤◌, Bool, true, false, cond, ltb, None, Ok, ◌∙◌, le_refl, arith}
-use native.Mathlib.Nat.{le-min}
+use Rattle.std.proofs.Math.Nat.{le-min}
 use Rattle.std.proofs.lemmas.Bool.{ltb-false}
 use Rattle.draws.specs.Runners.{RunnerState}
 use Rattle.draws.specs.Sources.{Words}

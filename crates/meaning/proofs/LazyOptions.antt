@@ -1,4 +1,5 @@
 -- The laws of a lazy option, from those of its tree.
+--   by_lazy      what holds of an option that waits, of one that is initialized and of one that failed holds of every option
 --   lazy_total   an option is total where its tree is
 --   lazy_keeps   it keeps its meaning where its tree does
 --   limited_keeps, lazy_limited   the same under a limit on what is stated
@@ -20,7 +21,6 @@ use Rattle.meaning.specs.Lazies.Lazy.{uninitialized, initialized, failed}
 use Rattle.meaning.specs.TableLaws.{Limited}
 use Rattle.meaning.specs.LazyLaws.{lazy_sound}
 
--- what holds of an option that waits, of one that is initialized, and of one that failed
 pub by_lazy : {S : Type 0} (Holds : Lazy S → Type 0) → ((s : S) (later : Stepped S) → Holds (uninitialized s later)) → ((s : S) → Holds (initialized s)) → ((s : S) → Holds (failed s)) → (x : Lazy S) → Holds x
 by_lazy Holds waits grew fails (uninitialized s later) = waits s later
 by_lazy Holds waits grew fails (initialized s) = grew s

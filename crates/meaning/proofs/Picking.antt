@@ -1,7 +1,7 @@
 -- The weighted pick: a draw below the sum of the weights picks one of the options.
 
 use Rattle.std.proofs.Common.{◌≡◌, ℕ, zero, suc, ◌+◌, ◌-◌, ◌^◌, ◌<◌, ◌≤◌, Bool, true, false, cond, leb, List, [], ◌∷◌, length, Ok, sum, count_by, Option, refl, ap, inl, inr, le_trans, arith}
-use native.Mathlib.Nat.{le-max_left, le-max_right}
+use Rattle.std.proofs.Math.Nat.{le-max_left, le-max_right}
 use Rattle.std.proofs.lemmas.List.Sums.{sum_by-cons, count_by-le-length}
 use Rattle.std.proofs.lemmas.Bool.{leb-true, cases_eq}
 use Rattle.draws.specs.Draws.{drawn}
@@ -41,7 +41,4 @@ picked_below weights some few word draw e =
 -- none of the first n states more than the greatest
 pub none_greater : (f : ℕ → ℕ) (n i : ℕ) → i < n → f i ≤ greatest f n
 none_greater f zero i low = absurd (omega arith)
-none_greater f (suc n) i low = elim (cases_eq i n) [
-  | inl same ↦ rw same (le-max_right (greatest f n) (f n))
-  | inr other ↦ le_trans (none_greater f n i (omega arith)) (le-max_left (greatest f n) (f n))
-]
+none_greater f (suc n) i low = grind (arith, le-max_left, le-max_right, none_greater f n i)

@@ -1,4 +1,5 @@
--- What sets show.
+-- What sets show, each told of a grown place and of a blank one.
+--   by_place           what holds of both holds of every place
 --   set_shows_enough   a sound set that is grown shows its fewest members, or more
 --   simplify_minimum, complicate_minimum   no step changes how many those are
 --   set_shows_once     a sound set shows no item twice
@@ -34,7 +35,6 @@ module _ {I : Type 0} (item : ℕ → I) where
   )
   shown_once n i (false ∷ bs) distinct within = shown_once n (suc i) bs distinct (omega arith)
 
--- what holds of a grown place and of a blank one
 pub by_place : {B : Type 0} (Holds : Place B → Type 0) → ((b : B) → Holds (holding b)) → ((b : B) → Holds (record { grown = false; tree = b })) → (p : Place B) → Holds p
 by_place {B} Holds grown blank p = by p.grown p.tree
   where

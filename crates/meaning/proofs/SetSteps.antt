@@ -1,6 +1,7 @@
 -- The laws of a set's steps.
---   set_total   at every state
---   set_keeps   a sound set keeps its meaning
+--   simplified   what holds where simplify clears a member, runs past the end or stays, holds of what it gives
+--   set_total    at every state
+--   set_keeps    a sound set keeps its meaning
 
 use Rattle.std.proofs.Common.{◌≡◌, ℕ, zero, suc, ◌<◌, ◌≤◌, Bool, true, false, ltb, List, [], ◌∷◌, length, get_or, drop, Some, None, Option, refl, ap, inl, inr, le_refl, add-suc, suc-add, arith, length-set}
 use Rattle.std.proofs.lemmas.Bool.{cond_both, ltb-true}
@@ -21,6 +22,7 @@ put_back_no_less : (bs : List Bool) (last : Option ℕ) → members bs ≤ membe
 put_back_no_less bs None = le_refl (members bs)
 put_back_no_less bs (Some i) = (members_put bs i).0
 
+-- the first member from a number on is one, unless it lies past the end
 first_is_member : (bs : List Bool) (i : ℕ) → first_member bs i < length bs → get_or bs (first_member bs i) false ≡ true
 first_is_member [] i below = absurd (omega arith)
 first_is_member (true ∷ bs) zero below = refl
@@ -28,7 +30,6 @@ first_is_member (false ∷ bs) zero below = rw (add-suc 0 (skipped bs)) (first_i
 first_is_member (b ∷ bs) (suc i) below = rw (suc-add i (skipped (drop i bs))) (first_is_member bs i (omega arith))
 
 module _ {I : Type 0} where
-  -- simplify clears a member, runs past the end or stays
   pub simplified : (Holds : Stepped (SetTree I) → Type 0) (s : SetTree I) → ((i : ℕ) → s.min_count < members s.included → get_or s.included i false ≡ true → Holds (cleared s i)) → ((i : ℕ) → Holds (ran_past s i)) → Holds (stays s) → Holds (set_simplify s)
   simplified Holds s clears passes rests =
       let i = first_member s.included s.shrink in
