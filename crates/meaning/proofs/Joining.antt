@@ -1,6 +1,6 @@
 -- What is joined by number, where one number has another value.
 
-use Rattle.std.proofs.Common.{◌≡◌, ℕ, zero, suc, ◌+◌, ◌<◌, ◌≤◌, Bool, List, [], ◌∷◌, length, sym, refl, ap, ◌∙◌, subst, inl, inr, arith, length-append}
+use Rattle.std.proofs.Common.{◌≡◌, ℕ, zero, suc, ◌+◌, ◌<◌, ◌≤◌, Bool, List, [], ◌∷◌, length, sym, refl, ap, ap₂, ◌∙◌, subst, inl, inr, arith, length-append}
 use Rattle.std.proofs.Math.Path.{fun_ext}
 use Rattle.std.proofs.lemmas.Bool.{cond_both, cases_eq}
 use Rattle.meaning.specs.Vectors.{joined, put}
@@ -31,10 +31,7 @@ joined_puts k a b f h bs here others = joined_put k a f (put k b h) bs (here ∙
 
 pub together_same : (f h : ℕ → ℕ) (n : ℕ) → ((j : ℕ) → j < n → f j ≡ h j) → together f n ≡ together h n
 together_same f h zero same = refl
-together_same f h (suc n) same =
-    let here = same n (omega arith) in
-    let rest = together_same f h n (λ j below. same j (omega arith)) in
-    omega arith
+together_same f h (suc n) same = ap₂ ◌+◌ (together_same f h n (λ j below. same j (omega arith))) (same n (omega arith))
 
 -- lists that each fit their number fit all numbers together
 pub joined_fits : {I : Type 0} (f : ℕ → List I) (most : ℕ → ℕ) (n : ℕ) → ((j : ℕ) → j < n → length (f j) ≤ most j) → (i : ℕ) (bs : List Bool) → i + length bs ≡ n → length (joined f i bs) + together most i ≤ together most n

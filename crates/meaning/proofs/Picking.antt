@@ -1,9 +1,9 @@
 -- The weighted pick: a draw below the sum of the weights picks one of the options.
 
-use Rattle.std.proofs.Common.{◌≡◌, ℕ, zero, suc, ◌+◌, ◌-◌, ◌^◌, ◌<◌, ◌≤◌, Bool, true, false, cond, leb, List, [], ◌∷◌, length, Ok, sum, count_by, Option, refl, ap, inl, inr, le_trans, arith}
+use Rattle.std.proofs.Common.{◌≡◌, ℕ, zero, suc, ◌+◌, ◌-◌, ◌^◌, ◌<◌, ◌≤◌, Bool, true, false, cond, leb, List, [], ◌∷◌, length, Ok, sum, count_by, Option, refl, ap, arith}
 use Rattle.std.proofs.Math.Nat.{le-max_left, le-max_right}
 use Rattle.std.proofs.lemmas.List.Sums.{sum_by-cons, count_by-le-length}
-use Rattle.std.proofs.lemmas.Bool.{leb-true, cases_eq}
+use Rattle.std.proofs.lemmas.Bool.{leb-true}
 use Rattle.draws.specs.Draws.{drawn}
 use Rattle.meaning.specs.Unions.{running, pick_for, greatest}
 use Rattle.meaning.proofs.Drawing.{drawn_range}
@@ -19,10 +19,7 @@ running_length so_far (weight ∷ weights) = ap suc (running_length (so_far + we
 -- the first, and then those after it
 counted_first : (draw so_far : ℕ) (weights : List ℕ) (test : Bool) → leb so_far draw ≡ test → (so_far ≤ draw → counted draw so_far weights < length weights) → cond test 1 0 + counted draw so_far weights < suc (length weights)
 counted_first draw so_far weights true e later = let rest = later (leb-true so_far draw e) in omega arith
-counted_first draw so_far weights false e later =
-    let most = count_by-le-length (λ x. leb x draw) (running so_far weights) in
-    let same = running_length so_far weights in
-    omega arith
+counted_first draw so_far weights false e later = grind (arith, count_by-le-length, running_length)
 
 counted_below : (draw so_far : ℕ) (weights : List ℕ) → so_far ≤ draw → draw < so_far + sum weights → counted draw so_far weights < length weights
 counted_below draw so_far [] past low = absurd (omega arith)

@@ -21,8 +21,8 @@ use Rattle.meaning.proofs.Growing.{Given, Kept, unchanged}
 use Rattle.meaning.proofs.Elements.{slots_and_room, Elements, all_sound, Done, Failed, elements_given}
 
 rises : (f : ℕ → ℕ) → ((n : ℕ) → f n ≤ f (suc n)) → (more n m : ℕ) → n + more ≡ m → f n ≤ f m
-rises f rising zero n m e = let same : f n ≡ f m = ap f (omega arith) in omega arith
-rises f rising (suc more) n m e = let next = rising n in let rest = rises f rising more (suc n) m (omega arith) in omega arith
+rises f rising zero n m e = grind arith
+rises f rising (suc more) n m e = let rest = rises f rising more (suc n) m (omega arith) in grind (arith, rising n)
 
 module _ {T I P : Type 0} {table : ℕ → Steps T I} {sound : ℕ → T → Type 0} {short : P → ℕ → T → Bool} {g : TableGrowth P T} {stated : P → ℕ → ℕ}
     (roots : TableRoots table sound short g stated) (p : P) (X : Type 0) (w : Words X) where
