@@ -4,7 +4,8 @@
 --   filter_map_roots   growth gives a tree that shows an item that the strategy's map gives, and states the longest 1
 --   filter_map_shows   a grown tree that is sound shows one item, the one that its map gives
 
-use Rattle.std.proofs.Common.{◌≡◌, ℕ, ◌≤◌, Bool, true, false, cond, List, length, is_some, Some, None, Option, sym, refl, ap, subst, inl, inr, true≢false, le_refl, arith}
+use Rattle.std.proofs.Common.{◌≡◌, ℕ, ◌≤◌, Bool, true, false, cond, List, length, is_some, Some, None, Option, sym, refl, ap, subst, true≢false, le_refl, arith}
+use Rattle.std.proofs.Math.Logic.{⊎_map}
 use Rattle.meaning.specs.Trees.{Steps, Meant, meant, Simplifies, Complicates, Total, Keeps}
 use Rattle.meaning.specs.Growths.{Growth, Roots}
 use Rattle.meaning.specs.Sifters.{sifter_steps}
@@ -42,13 +43,7 @@ module _ {I J : Type 0} (view : List I → List J) where
 
   viewed_simplifies : (before now : Meant I) (answer : Bool) → Simplifies before answer now → Simplifies (viewed before) answer (viewed now)
   viewed_simplifies before now true home = ap view home
-  viewed_simplifies before now false (shown, home) = (
-    ap view shown,
-    elim home [
-      | inl same ↦ inl (ap view same)
-      | inr shown ↦ inr (ap view shown)
-    ],
-  )
+  viewed_simplifies before now false (shown, home) = (ap view shown, ⊎_map (ap view) (ap view) home)
 
   viewed_complicates : (before now : Meant I) (answer : Bool) → Complicates before answer now → Complicates (viewed before) answer (viewed now)
   viewed_complicates before now true (home, falls) = (ap view home, falls)

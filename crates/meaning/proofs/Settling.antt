@@ -3,7 +3,7 @@
 --   step_falls, step_grown  a settled step at every state: steps back fall with complicate's answers, grownness is kept
 --   settled_simplify, settled_complicate   a settled step at sound states: it keeps its meaning, and the rule accepts
 
-use Rattle.std.proofs.Common.{◌≡◌, ℕ, zero, suc, ◌<◌, ◌≤◌, Bool, true, false, cond, List, sym, refl, ap, ◌∙◌, inl, inr, true≢false, le_refl, arith}
+use Rattle.std.proofs.Common.{◌≡◌, ℕ, zero, suc, ◌<◌, ◌≤◌, Bool, true, false, cond, List, sym, refl, ap, ◌∙◌, ⊎_elim, true≢false, le_refl, arith}
 use Rattle.meaning.specs.Trees.{Steps, Falls, SimplifyKept, ComplicateKept, Total, Keeps}
 use Rattle.meaning.specs.Sifters.{settle_once, settle, settled, settled_step, Accepted}
 
@@ -94,10 +94,7 @@ module _ {S I : Type 0} (t : Steps S I) (rule : List I → Bool) where
           (record { is_sound = rest.is_sound; candidate = rest.accepted; home = ap rule same_home ∙ before.candidate }, same_home, rest.same_longest ∙ longest)
       settled_simplify s s' false before (now-sound, (shown, home), longest) =
           let candidate = ap rule shown ∙ before.candidate in
-          let home-accepted : rule (t.home s') ≡ true = elim home [
-            | inl same ↦ ap rule same ∙ before.home
-            | inr shown ↦ ap rule shown ∙ before.candidate
-          ] in
+          let home-accepted : rule (t.home s') ≡ true = ⊎_elim (λ same. ap rule same ∙ before.home) (λ shown. ap rule shown ∙ before.candidate) home in
           (record { is_sound = now-sound; candidate = candidate; home = home-accepted }, (shown, home), longest)
 
       pub settled_complicate : (s s' : S) (answer : Bool) → Accepted t sound rule s → ComplicateKept t sound s (record { answer = answer; tree = s' }) →

@@ -2,9 +2,10 @@
 --   vec_total   a vector is total where the trees of its table are
 --   vec_keeps   it keeps its meaning where they keep theirs
 
-use Rattle.std.proofs.Common.{◌≡◌, ℕ, ◌+◌, ◌<◌, ◌≤◌, Bool, true, false, cond, not, eqb, ltb, ◌⊎◌, List, length, drop, set, Some, None, Option, sym, refl, ap, ◌∙◌, inl, inr, le_refl, arith, length-set, get_or-set_other, get_or-set_same}
+use Rattle.std.proofs.Common.{◌≡◌, ℕ, ◌+◌, ◌<◌, ◌≤◌, Bool, true, false, cond, not, eqb, ltb, ◌⊎◌, List, length, drop, set, Some, None, Option, sym, refl, ap, ◌∙◌, inl, le_refl, arith, length-set, get_or-set_other, get_or-set_same}
 use Rattle.std.proofs.lemmas.Bool.{cond_both, and_parts, ltb-true, eqb-false, not-true}
 use Rattle.std.proofs.lemmas.Grind.{get_or-set_at}
+use Rattle.std.proofs.Math.Logic.{⊎_map}
 use Rattle.meaning.specs.declared.collection.Shrink.{Shrink}
 use Rattle.meaning.specs.declared.collection.Shrink.TheVariants.{DeleteElement, ShrinkElement}
 use Rattle.meaning.specs.Trees.{Steps, meant, Simplifies, Complicates, Falls, Ends, SimplifyKept, ComplicateKept, Total, Keeps}
@@ -74,10 +75,10 @@ module _ {T I : Type 0} (table : ℕ → Steps T I) (sound : ℕ → T → Type 
       (vec_home table (walked v w).tree last ≡ vec_home table v last) ⊎ (vec_home table (walked v w).tree last ≡ vector.candidate v)
   walked_home v w None still = inl (joined_same (shown w.elements) (shown v.elements) v.included (λ j. (still j).0))
   walked_home v w (Some (DeleteElement i)) still = inl (joined_same (shown w.elements) (shown v.elements) (set v.included i true) (λ j. (still j).0))
-  walked_home v w (Some (ShrinkElement i)) still = elim (still i).1 [
-    | inl same ↦ inl (joined_puts i ((table i).home w.elements) ((table i).home v.elements) (shown w.elements) (shown v.elements) v.included same (λ j other. (still j).0))
-    | inr same ↦ inr (joined_put i ((table i).home w.elements) (shown w.elements) (shown v.elements) v.included same (λ j other. (still j).0))
-  ]
+  walked_home v w (Some (ShrinkElement i)) still = ⊎_map
+      (λ same. joined_puts i ((table i).home w.elements) ((table i).home v.elements) (shown w.elements) (shown v.elements) v.included same (λ j other. (still j).0))
+      (λ same. joined_put i ((table i).home w.elements) (shown w.elements) (shown v.elements) v.included same (λ j other. (still j).0))
+      (still i).1
 
   walked_kept : (v : VecTree T) (s : T) (place : ℕ) (found : Bool) → Sound v →
       (let w : Walked T = record { elements = s; place = place; found = found } in Walks table sound v.included v.elements w → SimplifyKept vector Sound v (walked v w))

@@ -1,6 +1,6 @@
 -- What a step of one tree of a table does to all of them, and what simplifying the members in turn does.
 
-use Rattle.std.proofs.Common.{◌≡◌, ℕ, suc, ◌<◌, Bool, true, false, List, [], ◌∷◌, length, get_or, drop, sym, refl, ap, ◌∙◌, subst, inl, inr}
+use Rattle.std.proofs.Common.{◌≡◌, ℕ, suc, ◌<◌, Bool, true, false, List, [], ◌∷◌, length, get_or, drop, sym, refl, ap, ◌∙◌, subst, inl, arith}
 use Rattle.std.proofs.lemmas.Bool.{false≢true}
 use Rattle.meaning.specs.Trees.{Steps, meant, Simplifies}
 use Rattle.meaning.specs.TableLaws.{Apart, TableKeeps}
@@ -11,13 +11,7 @@ use Rattle.meaning.proofs.Joining.{everywhere}
 -- a simplify after one that answered false is as one from the start
 after_false : {S I : Type 0} (t : Steps S I) (first then now : S) (answer : Bool) → Simplifies (meant t first) false (meant t then) → Simplifies (meant t then) answer (meant t now) → Simplifies (meant t first) answer (meant t now)
 after_false t first then now true still step = step ∙ still.0
-after_false t first then now false still step = (
-  step.0 ∙ still.0,
-  elim step.1 [
-    | inl same ↦ elim still.1 [ inl before ↦ inl (same ∙ before) | inr before ↦ inr (same ∙ before) ]
-    | inr same ↦ inr (same ∙ still.0)
-  ],
-)
+after_false t first then now false still step = (step.0 ∙ still.0, grind (arith, still.0, still.1, step.1))
 
 -- a tree that was not changed is apart, and one that a call left apart shows what it did
 pub same_apart : {S I : Type 0} (t : Steps S I) (sound : S → Type 0) {before now : S} → now ≡ before → Apart t sound before now
