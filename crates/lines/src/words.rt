@@ -1,12 +1,12 @@
 // The form of every line: a word, each of some numbers in decimal after one space, and a line feed.
 //
 // The whole is measured first, so that a buffer that is too short stays as it was; `write!` with a `Display` would fill it.
-ghost use Rattle.std.specs.Prelude.{◌≡◌, ℕ, ◌+◌, ◌-◌, ◌^◌, ◌≤◌, List, min, length};
+ghost use Rattle.std.specs.Prelude.{◌≡◌, ℕ, ◌+◌, ◌-◌, ◌^◌, ◌≤◌, List, min, length, decimal};
 ghost use Rattle.lines.specs.Lines.{written, ending};
 ghost use Rattle.buffers.specs.Over.{over, laid};
 
 use super::LineFault;
-use itoa::Buffer;
+use itoa::{Buffer, write_digits};
 use std::marker::Model;
 
 // A word, and the numbers behind it; to a contract, the bytes of their line.
@@ -34,7 +34,7 @@ impl<'a> Words<'a> {
         ensures { result ≡ min (length self.now) (2 ^ 64 - 1) }
     {
         self.numbers.iter().fold(self.word.len() + 1, |len, n| {
-            len.saturating_add(1 + Buffer::new().format(*n).len())
+            len.saturating_add(1 + digits(*n))
         })
     }
 
@@ -59,7 +59,7 @@ impl<'a> Words<'a> {
         let mut at = put(self.word, out);
         for n in self.numbers {
             at += put(b" ", &mut out[at..]);
-            at += put(Buffer::new().format(*n).as_bytes(), &mut out[at..]);
+            at += put_number(*n, &mut out[at..]);
         }
         put(b"\n", &mut out[at..]);
     }
@@ -73,4 +73,23 @@ fn put(bytes: &[u8], out: &mut [u8]) -> usize
 {
     out[..bytes.len()].copy_from_slice(bytes);
     bytes.len()
+}
+
+// Puts `n` in decimal at the start of `out`, each digit where it stays, and answers how many digits there are.
+fn put_number(n: u64, out: &mut [u8]) -> usize
+    requires { length (decimal n) ≤ length out.old }
+    ensures len { result ≡ length (decimal n) }
+    ensures buffer { out.new ≡ over (decimal n) out.old }
+{
+    let len = digits(n);
+    write_digits(n, out, len);
+    len
+}
+
+// How many digits `n` has in decimal.
+fn digits(n: u64) -> usize
+    ensures count { result ≡ length (decimal n) }
+    ensures bound { result ≤ 40 }
+{
+    Buffer::new().format(n).len()
 }

@@ -4,7 +4,7 @@ use Rattle.std.proofs.Common.{◌≡◌, ℕ, zero, suc, ◌+◌, ◌-◌, ◌^�
 use Rattle.std.specs.List.{list_any, range_with_len}
 use Rattle.std.specs.Option.{option_eq}
 use Rattle.std.proofs.lemmas.List.{take_min}
-use Rattle.buffers.proofs.Overs.{take_none}
+use Rattle.std.proofs.Math.Seq.{take-nil}
 use Rattle.meaning.specs.Readings.{counted, item_at}
 use Rattle.reduction.specs.Verdicts.{numbered, holds}
 
@@ -15,7 +15,7 @@ item_is n xs i = option_eq nat_eq (item_at xs i) (Some n)
 -- a test of the numbers from a on that says this of each item
 tested : (n : ℕ) (test : ℕ → Bool) (a m : ℕ) (xs : List ℕ) → ((i j : ℕ) → a + i ≡ j → test j ≡ item_is n xs i) → list_any test (range_with_len a m) ≡ holds n (take m xs)
 tested n test a zero xs e = refl
-tested n test a (suc m) [] e = rw (e 0 a (omega arith)) (tested n test (a + 1) m [] (λ i j f. e (suc i) j (omega (arith, f))) ∙ ap (holds n) (take_none m))
+tested n test a (suc m) [] e = rw (e 0 a (omega arith)) (tested n test (a + 1) m [] (λ i j f. e (suc i) j (omega (arith, f))) ∙ ap (holds n) (take-nil m))
 tested n test a (suc m) (x ∷ xs) e = rw (e 0 a (omega arith)) (ap (λ rest. nat_eq x n || rest) (tested n test (a + 1) m xs (λ i j f. e (suc i) j (omega (arith, f)))))
 
 pub held : (n : ℕ) (xs : List ℕ) (len : ℕ) → len ≡ counted (length xs) → list_any (item_is n xs) (range_with_len 0 len) ≡ holds n (numbered xs)
