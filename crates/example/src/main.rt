@@ -5,7 +5,6 @@
 
 #![tactic(auto)]
 
-use anyhow::anyhow;
 use draws::source::Tape;
 use draws::test_runner::TestRunner;
 use leaves::stair::{Stair, Stairs};
@@ -31,6 +30,20 @@ impl<'a> fmt::Display for Items<'a> {
             write!(f, " {x}")?;
         }
         Ok(())
+    }
+}
+
+// How a reduction came to its end, in a word.
+#[derive(Drop)]
+struct Ending(End);
+
+impl fmt::Display for Ending {
+    fn fmt<W: fmt::Write>(&self, f: &mut fmt::Formatter<W>) -> fmt::Result {
+        f.write_str(match self.0 {
+            End::Passes => "passes",
+            End::Ended => "ended",
+            End::Spent => "spent",
+        })
     }
 }
 
@@ -75,7 +88,7 @@ impl<'a> Witness<u64> for Printer<'a> {
         let rt = self.rt;
         let mut shown = [0u64; ROOM];
         let n = tree.copy_to(&mut shown);
-        let items = Items(&shown[0..n]);
+        let items = Items(&shown[..n]);
         let said = match what {
             Notice::Looked => println!(rt; "the tree shows:{items}"),
             Notice::Started(budget) => {
@@ -98,14 +111,9 @@ impl<'a> Witness<u64> for Printer<'a> {
 
     fn hear_report<T: ValueTree<Item = u64>>(&mut self, report: Reduced, buffer: &[u64], tree: &T) {
         let rt = self.rt;
+        let how = Ending(report.end);
         let verdicts = report.verdicts;
-        let how = match report.end {
-            End::Passes => "passes",
-            End::Ended => "ended",
-            End::Spent => "spent",
-        };
-        let length = report.length.min(buffer.len());
-        let items = Items(&buffer[0..length]);
+        let items = Items(&buffer[..report.length.min(buffer.len())]);
         self.note(println!(rt;
             "{how} after {verdicts} verdicts; the last list that failed:{items}"
         ));
@@ -115,12 +123,7 @@ impl<'a> Witness<u64> for Printer<'a> {
 // Grows a vector of one to three stairs with the limit 9 from the words 2, 5, 7 and 4, which gives 5 7 4, and makes the calls of
 // the script.
 fn run(rt: &HostRuntime, script: &[Call<Holds>]) -> anyhow::Result<()> {
-    let Ok(size) = SizeRange::new(1, 3) else {
-        return Err(anyhow!("the size is refused"));
-    };
-    let Ok(strategy) = vec(Stairs::new(9), size) else {
-        return Err(anyhow!("the strategy is refused"));
-    };
+    let strategy = vec(Stairs::new(9), SizeRange::new(1, 3)?)?;
     let words = [2u64, 5, 7, 4];
     let mut runner = TestRunner::new(Tape::new(&words), 0, 0, 0);
     let mut slots = [Stair::place(); 3];
@@ -142,8 +145,7 @@ fn run(rt: &HostRuntime, script: &[Call<Holds>]) -> anyhow::Result<()> {
         let number = fault.number();
         println!(rt; "growth is refused with {number}")?;
     }
-    let Printer { status, .. } = printer;
-    status?;
+    printer.status?;
     Ok(())
 }
 

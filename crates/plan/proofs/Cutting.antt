@@ -1,8 +1,9 @@
 -- Where `cut` cuts, and how its parts make the text and its pieces.
 use Rattle.std.proofs.Common.{◌≡◌, ℕ, zero, suc, ◌<◌, true, false, cond, eqb, List, [], ◌∷◌, ◌++◌, length, get_or, take, drop, sym, refl, ap, ◌∙◌, arith}
+use Rattle.std.specs.List.{onto_first}
 use Rattle.std.proofs.lemmas.List.{length-append}
 use Rattle.std.proofs.lemmas.Bool.{eq-eqb, ne_eqb, eqb-true, cond_both}
-use Rattle.plan.specs.Parts.{Parting, cut, behind, pieces, onto}
+use Rattle.plan.specs.Parts.{Parting, cut, behind, pieces}
 use Rattle.plan.specs.Parts.Parting.{whole, parted}
 
 -- the first i bytes of the text are no marks
@@ -32,10 +33,10 @@ pieces_by mark text (parted before after) = before ∷ pieces mark after
 pieces_cut : (mark : ℕ) (text : List ℕ) → pieces mark text ≡ pieces_by mark text (cut mark text)
 pieces_cut mark [] = refl
 pieces_cut mark (b ∷ bs) =
-    elim (eqb b mark) as (λ t. cond t ([] ∷ pieces mark bs) (onto b (pieces mark bs)) ≡ pieces_by mark (b ∷ bs) (cond t (parted [] bs) (behind b (cut mark bs))))
-    [ true ↦ refl | false ↦ ap (onto b) (pieces_cut mark bs) ∙ onto_behind (cut mark bs) ]
+    elim (eqb b mark) as (λ t. cond t ([] ∷ pieces mark bs) (onto_first b (pieces mark bs)) ≡ pieces_by mark (b ∷ bs) (cond t (parted [] bs) (behind b (cut mark bs))))
+    [ true ↦ refl | false ↦ ap (onto_first b) (pieces_cut mark bs) ∙ onto_behind (cut mark bs) ]
   where
-    onto_behind : (p : Parting) → onto b (pieces_by mark bs p) ≡ pieces_by mark (b ∷ bs) (behind b p)
+    onto_behind : (p : Parting) → onto_first b (pieces_by mark bs p) ≡ pieces_by mark (b ∷ bs) (behind b p)
     onto_behind whole = refl
     onto_behind (parted x y) = refl
 

@@ -1,7 +1,7 @@
 -- A loop that gathers a list item by item, against `each` and `at_most`.
-use Rattle.std.proofs.Common.{◌≡◌, ℕ, ◌<◌, ◌≤◌, false, ltb, List, [], ◌∷◌, ◌++◌, length, Some, None, Option, sym, refl, ap, ◌∙◌, arith}
+use Rattle.std.proofs.Common.{◌≡◌, ℕ, ◌<◌, ◌≤◌, List, [], ◌∷◌, ◌++◌, length, Some, None, Option, sym, refl, ap, ◌∙◌, arith}
 use Rattle.std.proofs.lemmas.List.{append_assoc, append-nil, length-append}
-use Rattle.std.proofs.lemmas.Bool.{le-leb, lt-leb, ltb-false}
+use Rattle.std.proofs.lemmas.Bool.{le-leb, lt-leb}
 use Rattle.plan.specs.Gather.{each, at_most, first_of}
 
 module _ {B : Type 0} where
@@ -28,15 +28,16 @@ module _ {B : Type 0} where
 -- a loop that has gathered a list, and has these items left, comes to this answer
 pub record Going {A B : Type 0} (most : ℕ) (read : A → Option B) (so_far : List B) (left : List A) (answer : Option (List B)) : Type 0 where
   pub comes_to : at_most most (after so_far (each read left)) ≡ answer
+  pub fits : length so_far ≤ most
 
 module _ {A B : Type 0} {most : ℕ} {read : A → Option B} where
   pub starts : (so_far : List B) (xs : List A) → so_far ≡ [] → Going most read so_far xs (at_most most (each read xs))
-  starts so_far xs none = record { comes_to = rw none (ap (at_most most) (after_none (each read xs))) }
+  starts so_far xs none = record { comes_to = rw none (ap (at_most most) (after_none (each read xs))); fits = rw none (omega arith) }
 
   module _ {so_far : List B} {left : List A} {answer : Option (List B)} (going : Going most read so_far left answer) where
-    pub ends : left ≡ [] → length so_far ≤ most → Some so_far ≡ answer
-    ends last fits =
-        let all : at_most most (after so_far (each read left)) ≡ Some so_far = rw (last, append-nil, le-leb (length so_far) most fits) in
+    pub ends : left ≡ [] → Some so_far ≡ answer
+    ends last =
+        let all : at_most most (after so_far (each read left)) ≡ Some so_far = rw (last, append-nil, le-leb (length so_far) most going.fits) in
         sym all ∙ going.comes_to
 
     module _ {x : A} {xs : List A} (next : left ≡ x ∷ xs) where
@@ -45,14 +46,13 @@ module _ {A B : Type 0} {most : ℕ} {read : A → Option B} where
           let none : at_most most (after so_far (each read left)) ≡ None = rw (next, ← e) in
           sym none ∙ going.comes_to
 
-      pub stops_full : false ≡ ltb (length so_far) most → None ≡ answer
-      stops_full e =
-          let full : most ≤ length so_far = ltb-false (length so_far) most (sym e) in
-          let none : at_most most (after so_far (each read left)) ≡ None = rw next (after_full most so_far (read x) (each read xs) full) in
+      pub stops_full : length so_far ≡ most → None ≡ answer
+      stops_full full =
+          let none : at_most most (after so_far (each read left)) ≡ None = rw next (after_full most so_far (read x) (each read xs) (omega arith)) in
           sym none ∙ going.comes_to
 
-      pub goes_on : {y : B} {more : List B} → Some y ≡ read x → more ≡ so_far ++ (y ∷ []) → Going most read more xs answer
-      goes_on {y} {more} e pushed =
+      pub goes_on : {y : B} {more : List B} → Some y ≡ read x → length so_far < most → more ≡ so_far ++ (y ∷ []) → Going most read more xs answer
+      goes_on {y} {more} e room pushed =
           let one : at_most most (after so_far (each read left)) ≡ at_most most (after more (each read xs)) =
           rw (next, ← e, pushed) (ap (at_most most) (after_more so_far y (each read xs))) in
-          record { comes_to = sym one ∙ going.comes_to }
+          record { comes_to = sym one ∙ going.comes_to; fits = rw pushed (simp length-append (omega arith)) }

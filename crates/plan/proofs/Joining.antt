@@ -1,9 +1,9 @@
 -- Pieces put together, and cut again.
 use Rattle.std.proofs.Common.{◌≡◌, ℕ, ◌<◌, false, eqb, List, [], ◌∷◌, ◌++◌, length, sym, refl, ap, ◌∙◌, arith}
-use Rattle.std.specs.List.{AllByRecursion}
+use Rattle.std.specs.List.{AllByRecursion, onto_first}
 use Rattle.std.proofs.lemmas.List.{length-append}
 use Rattle.std.proofs.lemmas.Bool.{eq-eqb, eqb-true, ne_eqb, cond_both}
-use Rattle.plan.specs.Parts.{cut, pieces, onto, join}
+use Rattle.plan.specs.Parts.{cut, pieces, join}
 use Rattle.plan.specs.Parts.Parting.{whole, parted}
 use Rattle.plan.proofs.Cutting.{pieces_whole, pieces_parted}
 
@@ -30,17 +30,17 @@ module _ (mark : ℕ) where
   join_some p [] h = h
   join_some p (q ∷ qs) h = simp length-append (omega arith)
 
-  onto_some : (b : ℕ) (ps : List (List ℕ)) → 0 < length (onto b ps)
+  onto_some : (b : ℕ) (ps : List (List ℕ)) → 0 < length (onto_first b ps)
   onto_some b [] = omega arith
   onto_some b (p ∷ ps) = omega arith
 
   pub pieces_some : (text : List ℕ) → 0 < length (pieces mark text)
   pieces_some [] = omega arith
   pieces_some (b ∷ bs) =
-      cond_both (eqb b mark) ([] ∷ pieces mark bs) (onto b (pieces mark bs)) (λ ps. 0 < length ps)
+      cond_both (eqb b mark) ([] ∷ pieces mark bs) (onto_first b (pieces mark bs)) (λ ps. 0 < length ps)
       (λ _. omega arith) (λ _. onto_some b (pieces mark bs))
 
-  join_onto : (b : ℕ) (ps : List (List ℕ)) → join mark (onto b ps) ≡ b ∷ join mark ps
+  join_onto : (b : ℕ) (ps : List (List ℕ)) → join mark (onto_first b ps) ≡ b ∷ join mark ps
   join_onto b [] = refl
   join_onto b (p ∷ []) = refl
   join_onto b (p ∷ (q ∷ qs)) = refl
@@ -52,6 +52,6 @@ module _ (mark : ℕ) where
   pub join_pieces : (text : List ℕ) → join mark (pieces mark text) ≡ text
   join_pieces [] = refl
   join_pieces (b ∷ bs) =
-      cond_both (eqb b mark) ([] ∷ pieces mark bs) (onto b (pieces mark bs)) (λ ps. join mark ps ≡ b ∷ bs)
+      cond_both (eqb b mark) ([] ∷ pieces mark bs) (onto_first b (pieces mark bs)) (λ ps. join mark ps ≡ b ∷ bs)
       (λ e. join_mark (pieces mark bs) (pieces_some bs) ∙ rw (eqb-true b mark e, join_pieces bs))
       (λ _. join_onto b (pieces mark bs) ∙ ap (λ t. b ∷ t) (join_pieces bs))

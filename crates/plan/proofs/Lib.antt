@@ -1,6 +1,4 @@
-mod Filling
 mod Cutting
-mod Digits
 mod Gathering
 mod Spelling
 mod Numerals

@@ -1,11 +1,9 @@
 pub mod Parts
 pub mod Numbers
 pub mod Lines
-pub mod Listed
 pub mod Lent
 pub mod Gather
 pub mod Values
 pub mod Plans
-pub mod Said
 pub mod Texts
 pub mod Faithful

@@ -2,7 +2,6 @@
 
 #![tactic(auto)]
 
-mod filled;
 mod line;
 mod number;
 mod parts;
@@ -14,4 +13,4 @@ mod values;
 
 pub use line::{PlanLine, read_line};
 pub use plan::{Plan, PlanFault, read_plan};
-pub use step::Step;
+pub use step::{Step, UnknownLetter};

@@ -3,24 +3,10 @@ ghost use Rattle.std.specs.Prelude.{◌≡◌};
 ghost use Rattle.plan.specs.Parts.{cut};
 ghost use Rattle.plan.specs.Lent.{parts_of};
 
-// What stands before the first mark, and after it.
-#[derive(Clone, Copy)]
-pub struct Parts<'a> {
-    pub before: &'a [u8],
-    pub after: &'a [u8],
-}
-
-// The text cut at its first `mark`; none where it has no mark.
-pub fn cut<'a>(text: &'a [u8], mark: u8) -> Option<Parts<'a>>
+// What stands before the text's first `mark`, and after it; none where it has no mark.
+pub fn cut(text: &[u8], mark: u8) -> Option<(&[u8], &[u8])>
     ensures { parts_of result ≡ cut mark text.now }
 {
-    for (i, byte) in text.iter().enumerate() {
-        if *byte == mark {
-            return Some(Parts {
-                before: &text[0..i],
-                after: &text[i + 1..],
-            });
-        }
-    }
-    None
+    let at = text.iter().position(|byte| *byte == mark)?;
+    Some((&text[..at], &text[at + 1..]))
 }

@@ -1,75 +1,98 @@
 // A plan, read from its text.
-ghost use Rattle.std.specs.Prelude.{◌≡◌};
+ghost use Rattle.std.specs.Prelude.{◌≡◌, ◌≤◌, Some, None, MatchResult};
 ghost use Rattle.plan.specs.Faithful.{Faithful};
 ghost use Rattle.plan.specs.Lent.{line_seen};
-ghost use Rattle.plan.specs.Listed.{listed};
-ghost use Rattle.plan.specs.Plans.{plan_number, plan_of, low_in, high_in, draws_in, steps_in, first_line, after_line};
-ghost use Rattle.plan.specs.Said.{said, wrong_line, heard};
+ghost use Rattle.plan.specs.Plans.{plan_number, plan_of, first_line, after_line};
+ghost use Rattle.plan.specs.declared.line.PlanLine.{PlanLine as Seen};
 
-use crate::filled::Filled;
 use crate::line::{PlanLine, read_line};
-use crate::parts::{Parts, cut};
+use crate::parts::cut;
 use crate::step::Step;
 use crate::values;
 use crate::values::{MOST_DRAWS, MOST_STEPS};
+use arrayvec::ArrayVec;
+use std::marker::Model;
+use thiserror::Error;
 
 // The sizes to draw from, the words of the draws, and the steps to take.
 #[derive(Drop)]
 pub struct Plan {
     low: usize,
     high: usize,
-    draws: Filled<u64, MOST_DRAWS>,
-    steps: Filled<Step, MOST_STEPS>,
+    draws: ArrayVec<u64, MOST_DRAWS>,
+    steps: ArrayVec<Step, MOST_STEPS>,
+}
+
+impl Model for Plan {
+    ghost use Rattle.plan.specs.Plans.{PlanText};
+
+    ghost Value = { PlanText };
+
+    ghost view = { λ p. record { low = p.low; high = p.high; draws = p.draws.items; steps = p.steps.items } };
 }
 
 impl Plan {
     // The low size, from 0 to 64.
     pub fn low(&self) -> usize
-        ensures { result ≡ (said self.now).low }
+        ensures { result ≡ self.now.low }
     {
         self.low
     }
 
     // The high size, from 0 to 64; the low one may lie above it.
     pub fn high(&self) -> usize
-        ensures { result ≡ (said self.now).high }
+        ensures { result ≡ self.now.high }
     {
         self.high
     }
 
     // The draws in their order, at most 256.
     pub fn draws(&self) -> &[u64]
-        ensures { result.now ≡ (said self.now).draws }
+        ensures { result.now ≡ self.now.draws }
     {
-        self.draws.items()
+        &self.draws
     }
 
     // The steps in their order, at most 1,024.
     pub fn steps(&self) -> &[Step]
-        ensures { result.now ≡ (said self.now).steps }
+        ensures { result.now ≡ self.now.steps }
     {
-        self.steps.items()
+        &self.steps
     }
 }
 
 // The refusal of a plan: its first wrong line, from 1; text after the fourth line is line 5.
-#[derive(Clone, Copy)]
+#[derive(Clone, Copy, Debug, PartialEq, Eq, Error)]
+#[error("line {line} of the plan is wrong")]
 pub struct PlanFault {
     line: u8,
+}
+
+impl Model for PlanFault {
+    ghost use Rattle.std.specs.Prelude.{ℕ, ◌≤◌};
+
+    ghost Value = { ℕ };
+
+    ghost view = { λ f. f.line };
+
+    ghost invariant = { λ f. (1 ≤ f.line) × (f.line ≤ 5) };
+
+    ghost inverse = { λ line. record { line = line } };
 }
 
 impl PlanFault {
     // The refusal of a text that is not read at all, since it is longer than any plan may be.
     pub fn too_long() -> PlanFault
-        ensures { wrong_line result ≡ 1 }
+        ensures { result ≡ 1 }
     {
-        let first = 1;
-        PlanFault { line: first }
+        PlanFault { line: 1 }
     }
 
     // The number of the line, from 1 to 5.
     pub fn line(self) -> u8
-        ensures { result ≡ wrong_line self }
+        ensures value { result ≡ self }
+        ensures first { 1 ≤ result }
+        ensures last { result ≤ 5 }
     {
         self.line
     }
@@ -82,51 +105,27 @@ impl PlanFault {
     }
 }
 
-// What the line gives, where it is the line of the low size and its value reads; the next three are alike.
-fn low_in(line: PlanLine) -> Option<usize>
-    ensures { result ≡ low_in (line_seen line.entry) }
+// The line of this number, at the front of the text: what `reads` makes of it, and the text after it.
+// A line that no line feed closes is wrong.
+fn part<'a, T, F: FnOnce(PlanLine<'a>) -> Option<T>>(
+    number: u8,
+    text: &'a [u8],
+    reads: F,
+) -> Result<(T, &'a [u8]), PlanFault>
+    requires first { 1 ≤ number }
+    requires last { number ≤ 5 }
+    requires callable { F.IsAlwaysCallable reads }
+    ensures { (line : Seen) × (line_seen line ≡ first_line text.now)
+        × MatchResult result (λ p. F.post reads line (Some p.0) × (p.1.now ≡ after_line text.now))
+            (λ k. F.post reads line None × (k ≡ number)) }
 {
-    match line {
-        PlanLine::Low { value, .. } => values::size(value),
-        _ => None,
-    }
-}
-
-fn high_in(line: PlanLine) -> Option<usize>
-    ensures { result ≡ high_in (line_seen line.entry) }
-{
-    match line {
-        PlanLine::High { value, .. } => values::size(value),
-        _ => None,
-    }
-}
-
-fn draws_in(line: PlanLine) -> Option<Filled<u64, MOST_DRAWS>>
-    ensures { listed result ≡ draws_in (line_seen line.entry) }
-{
-    match line {
-        PlanLine::Draws { value, .. } => values::draws(value),
-        _ => None,
-    }
-}
-
-fn steps_in(line: PlanLine) -> Option<Filled<Step, MOST_STEPS>>
-    ensures { listed result ≡ steps_in (line_seen line.entry) }
-{
-    match line {
-        PlanLine::Steps { value, .. } => values::steps(value),
-        _ => None,
-    }
-}
-
-// The first line of the text, wrong where no line feed closes it, and what follows it.
-fn first_line<'a>(text: &'a [u8]) -> (PlanLine<'a>, &'a [u8])
-    ensures line { line_seen result.0 ≡ first_line text.now }
-    ensures after { result.1.now ≡ after_line text.now }
-{
-    match cut(text, b'\n') {
-        Some(Parts { before, after }) => (read_line(before), after),
-        None => (PlanLine::Wrong, b""),
+    let (line, rest) = match cut(text, b'\n') {
+        Some((line, rest)) => (read_line(line), rest),
+        None => (PlanLine::Wrong, b"".as_slice()),
+    };
+    match reads(line) {
+        Some(value) => Ok((value, rest)),
+        None => Err(PlanFault { line: number }),
     }
 }
 
@@ -139,26 +138,26 @@ fn first_line<'a>(text: &'a [u8]) -> (PlanLine<'a>, &'a [u8])
 //
 // A number is written in decimal digits, with no leading zero.
 pub fn read_plan(text: &[u8]) -> Result<Plan, PlanFault>
-    ensures read { heard result ≡ plan_of text.now }
-    ensures faithful { Faithful text.now (heard result) }
+    ensures read { result ≡ plan_of text.now }
+    ensures faithful { Faithful text.now result }
 {
-    let (line, rest) = first_line(text);
-    let Some(low) = low_in(line) else {
-        return Err(PlanFault { line: 1 });
-    };
-    let (line, rest) = first_line(rest);
-    let Some(high) = high_in(line) else {
-        return Err(PlanFault { line: 2 });
-    };
-    let (line, rest) = first_line(rest);
-    let Some(draws) = draws_in(line) else {
-        return Err(PlanFault { line: 3 });
-    };
-    let (line, rest) = first_line(rest);
-    let Some(steps) = steps_in(line) else {
-        return Err(PlanFault { line: 4 });
-    };
-    if !rest.is_empty() {
+    let (low, text) = part(1, text, |line| match line {
+        PlanLine::Low { value, .. } => values::size(value),
+        _ => None,
+    })?;
+    let (high, text) = part(2, text, |line| match line {
+        PlanLine::High { value, .. } => values::size(value),
+        _ => None,
+    })?;
+    let (draws, text) = part(3, text, |line| match line {
+        PlanLine::Draws { value, .. } => values::draws(value),
+        _ => None,
+    })?;
+    let (steps, text) = part(4, text, |line| match line {
+        PlanLine::Steps { value, .. } => values::steps(value),
+        _ => None,
+    })?;
+    if !text.is_empty() {
         return Err(PlanFault { line: 5 });
     }
     Ok(Plan {

@@ -1,25 +1,38 @@
 // The steps of a plan, a letter each.
-ghost use Rattle.std.specs.Prelude.{◌≡◌};
-ghost use Rattle.plan.specs.Values.{step_of};
+ghost use Rattle.std.specs.Option.{ok_or};
+
+use thiserror::Error;
 
 // One step: show the value, or try to make it simpler or less simple.
-#[derive(Clone, Copy)]
+#[derive(Clone, Copy, Debug, Default, PartialEq, Eq)]
 pub enum Step {
+    #[default]
     View,
     Simplify,
     Complicate,
 }
 
-impl Step {
+// A letter that no step has.
+#[derive(Clone, Copy, Debug, PartialEq, Eq, Error)]
+#[error("no step has the letter {0}")]
+pub struct UnknownLetter(pub u8);
+
+impl TryFrom<u8> for Step {
+    type Error = UnknownLetter;
+
+    ghost use Rattle.std.specs.Prelude.{◌≡◌};
+    ghost use Rattle.std.specs.Option.{ok_or};
+    ghost use Rattle.plan.specs.Values.{step_of};
+
+    ghost try_from_gives = { λ letter r. r ≡ ok_or (step_of letter) (record { 0 = letter }) };
+
     // The step of the letter v, s or c.
-    pub(crate) fn of_letter(letter: u8) -> Option<Step>
-        ensures { result ≡ step_of letter }
-    {
+    fn try_from(letter: u8) -> Result<Step, UnknownLetter> {
         match letter {
-            b'v' => Some(Step::View),
-            b's' => Some(Step::Simplify),
-            b'c' => Some(Step::Complicate),
-            _ => None,
+            b'v' => Ok(Step::View),
+            b's' => Ok(Step::Simplify),
+            b'c' => Ok(Step::Complicate),
+            _ => Err(UnknownLetter(letter)),
         }
     }
 }

@@ -1,12 +1,11 @@
 // The values of a plan's lines.
 ghost use Rattle.std.specs.Prelude.{◌≡◌};
+ghost use Rattle.std.specs.Option.{option_map};
 ghost use Rattle.plan.specs.Values.{size_of, draws_of, steps_of};
-ghost use Rattle.plan.specs.Listed.{listed};
 
-use crate::filled::Filled;
 use crate::number::number;
-use crate::parts::{Parts, cut};
 use crate::step::Step;
+use arrayvec::ArrayVec;
 
 pub const LARGEST_SIZE: u64 = 64;
 
@@ -21,30 +20,27 @@ pub fn size(value: &[u8]) -> Option<usize>
     Some(number(value, LARGEST_SIZE)? as usize)
 }
 
-// The draws. Each ends at a space, and the last one at the end of the value.
-pub fn draws(value: &[u8]) -> Option<Filled<u64, MOST_DRAWS>>
-    ensures { listed result ≡ draws_of value.now }
+// The draws: none in the empty value, else the numbers between its spaces.
+pub fn draws(value: &[u8]) -> Option<ArrayVec<u64, MOST_DRAWS>>
+    ensures { option_map (λ v. v.items) result ≡ draws_of value.now }
 {
-    let mut draws = Filled::empty(0);
+    let mut draws = ArrayVec::new();
     if value.is_empty() {
         return Some(draws);
     }
-    let mut rest = value;
-    while let Some(Parts { before, after }) = cut(rest, b' ') {
-        draws.push(number(before, u64::MAX)?)?;
-        rest = after;
+    for word in value.split(|byte| *byte == b' ') {
+        draws.try_push(number(word, u64::MAX)?).ok()?;
     }
-    draws.push(number(rest, u64::MAX)?)?;
     Some(draws)
 }
 
 // The steps, a letter each.
-pub fn steps(value: &[u8]) -> Option<Filled<Step, MOST_STEPS>>
-    ensures { listed result ≡ steps_of value.now }
+pub fn steps(value: &[u8]) -> Option<ArrayVec<Step, MOST_STEPS>>
+    ensures { option_map (λ v. v.items) result ≡ steps_of value.now }
 {
-    let mut steps = Filled::empty(Step::View);
+    let mut steps = ArrayVec::new();
     for letter in value {
-        steps.push(Step::of_letter(*letter)?)?;
+        steps.try_push(Step::try_from(*letter).ok()?).ok()?;
     }
     Some(steps)
 }

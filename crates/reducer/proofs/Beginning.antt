@@ -8,6 +8,8 @@ use Rattle.meaning.specs.Stairs.{stair_growth}
 use Rattle.meaning.specs.Tables.{slice_growth, slice_short, slice_stated}
 use Rattle.meaning.specs.Vectors.{vec_making, vec_growth}
 use Rattle.meaning.specs.declared.traits.StrategyFault.{StrategyFault}
+use Rattle.leaves.specs.declared.stair.Stairs.{Stairs}
+use Rattle.meaning.specs.declared.size_range.SizeRange.{SizeRange}
 use Rattle.plan.specs.Plans.{PlanText}
 use Rattle.meaning.specs.declared.size_range.SizeFault.TheVariants.{Reversed}
 use Rattle.reducer.specs.declared.session.SessionFault.TheVariants.{Size}
@@ -31,11 +33,20 @@ past_size plan v b e m f = rw (e, f) refl
 abbrev pub at_tape : List ℕ → ℕ → RunnerState TapeState
 at_tape words place = record { source = record { words = words; place = place }; cases = 0; regenerations = 0; rejections = 0 }
 
--- a growth by the plan's numbers is what begins its session
-pub begun_by : (plan : PlanText) (v : Vector) (limit low high : ℕ) (r : RunnerState TapeState) (o : Outcome TapeState Vector)
-    → limit ≡ stair_limit → low ≡ plan.low → high ≡ plan.high → r ≡ over_draws plan.draws
-    → low ≤ high → vec_making high (high * 1) ≡ Ok tt → o ≡ grown_by limit low high r v
+-- a growth by the plan's numbers, as the calls before it hand them on, is what begins its session
+pub begun_by : (plan : PlanText) (v : Vector) {stairs stairs' : Stairs} {size size' : SizeRange} {low high : ℕ} {words draws : List ℕ} {place : ℕ} {r : RunnerState TapeState} (o : Outcome TapeState Vector)
+    → low ≡ plan.low → high ≡ plan.high → draws ≡ plan.draws
+    → (low ≤ high) × (size.low ≡ low) × (size.high ≡ high)
+    → stairs.limit ≡ stair_limit
+    → (vec_making size.high (size.high * 1) ≡ Ok tt) × (stairs' ≡ stairs) × (size' ≡ size)
+    → words ≡ draws → place ≡ 0 → r ≡ at_tape words place
+    → o ≡ grown_by stairs'.limit size'.low size'.high r v
     → grown o o.answer ≡ begun plan v
-begun_by plan v limit low high r o a b c d h m e =
-    ap (λ (o : Outcome TapeState Vector). grown o o.answer) (e ∙ same_growth plan v limit low high r a b c d)
-    ∙ past_size plan v (ltb plan.high plan.low) (le-ltb plan.high plan.low (omega (arith, h, b, c))) (vec_making plan.high (plan.high * 1)) (ap (λ (x : ℕ). vec_making x (x * 1)) (sym c) ∙ m)
+begun_by plan v {stairs' = stairs'} {size' = size'} {place = place} o l h d sized limit strategy words_are place_is run e =
+    let limit' : stairs'.limit ≡ stair_limit = ap (λ (x : Stairs). x.limit) strategy.1 ∙ limit in
+    let low' : size'.low ≡ plan.low = ap (λ (x : SizeRange). x.low) strategy.2 ∙ sized.1 ∙ l in
+    let high' : size'.high ≡ plan.high = ap (λ (x : SizeRange). x.high) strategy.2 ∙ sized.2 ∙ h in
+    let run' = run ∙ ap (λ (ws : List ℕ). at_tape ws place) (words_are ∙ d) ∙ ap (at_tape plan.draws) place_is in
+    let ordered = sized.0 in
+    ap (λ (o : Outcome TapeState Vector). grown o o.answer) (e ∙ same_growth plan v _ _ _ _ limit' low' high' run')
+    ∙ past_size plan v (ltb plan.high plan.low) (le-ltb plan.high plan.low (omega arith)) (vec_making plan.high (plan.high * 1)) (ap (λ (x : ℕ). vec_making x (x * 1)) (sym (sized.2 ∙ h)) ∙ strategy.0)

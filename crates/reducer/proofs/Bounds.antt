@@ -60,16 +60,16 @@ digit_more xs ys a b = record {
 length_spaced : (xs : List ℕ) → AllByRecursion Digit xs → length (each_joined spaced xs) ≡ 2 * length xs
 length_spaced [] h = refl
 length_spaced (x ∷ xs) h =
-    let one = ap length (decimal_digit x (let l = h.0 in omega (arith, l))) in
+    let one = ap length (decimal_digit x (let l = h.0 in omega arith)) in
     let rest = length_spaced xs h.1 in
-    simp length-append (omega (arith, one, rest))
+    simp length-append (omega arith)
 
 -- a letter, at most 64 digits and a line feed
 short_written : (letter xs : List ℕ) → length letter ≡ 1 → Digits most_slots xs → length (written letter xs) ≤ 130
 short_written letter xs one d =
     let few = d.few in
     let l = length_spaced xs d.each in
-    simp length-append (omega (arith, one, few, l))
+    simp length-append (omega arith)
 
 flag_digit : (b : Bool) → Digits most_slots (flag b ∷ [])
 flag_digit true = record { few = omega arith; each = (omega arith, tt) }
@@ -215,7 +215,7 @@ drawn_most a b h l None = tt
 drawn_most a b h l (Some w) =
     let narrow = lt-ltb (b - a) (2 ^ 64 - 1) (omega arith) in
     let m = mod-lt w {m = b - a + 1} (omega arith) in
-    rw narrow (omega (arith, m))
+    rw narrow (omega arith)
 
 abbrev Leaves : {X S : Type 0} → (S → Type 0) → Grows X S → Type 0
 Leaves {X} {S} P g = (r : RunnerState X) (s : S) → P s → P (g r s).place
@@ -345,7 +345,7 @@ module _ {S : Type 0} {P : S → Type 0} (t : Steps S ℕ) (k : BoundedSteps mos
   short_said (step ∷ steps) s h =
       let line = short_line step s h in
       let rest = short_said steps (turn t step s).leaves (turn_keeps step s h) in
-      simp length-append (omega (arith, line, rest))
+      simp length-append (omega arith)
 
 -- from the bench on, whatever growth answered: no candidate of more than 64 items, and no more than 130 bytes to a step
 

@@ -1,4 +1,5 @@
 mod Beginning
+mod Paging
 mod Playing
 mod Bounds
 mod Running

@@ -1,75 +1,50 @@
 -- Steps and their lines, one after another.
 
-use Rattle.std.proofs.Common.{◌≡◌, ℕ, ◌+◌, ◌-◌, ◌<◌, ◌≤◌, min, List, [], ◌∷◌, ◌++◌, length, get_or, take, drop, sym, refl, ap, ◌∙◌, add-one, arith, length-append, drop_of_length-le, drop-cons}
-use Rattle.buffers.specs.Over.{over, over_from}
-use Rattle.buffers.proofs.Overs.{over_fits, over_from_none, over_from_append, length_over_from}
+use Rattle.std.proofs.Common.{◌≡◌, ℕ, ◌+◌, ◌<◌, ◌≤◌, List, ◌∷◌, ◌++◌, length, get_or, drop, sym, refl, ap, ◌∙◌, append-nil, append_assoc, add-one, arith, length-append, drop_of_length-le, drop-cons}
 use Rattle.meaning.specs.Trees.{Steps}
 use Rattle.plan.specs.declared.step.Step.{Step}
 use Rattle.lines.specs.Lines.{line_bytes, page}
-use Rattle.reducer.specs.Sessions.{most_slots, turn, says, Few}
+use Rattle.reducer.specs.Sessions.{most_slots, turn, says, longest_page, Few}
 
-take_front : {A : Type 0} (xs ys : List A) → take (length xs) (xs ++ ys) ≡ xs
-take_front [] ys = refl
-take_front (x ∷ xs) ys = ap (λ zs. x ∷ zs) (take_front xs ys)
+-- from a state on, few candidates have many items, and the lines of these steps behind those so far make the whole, which fits
+pub record Playing {S : Type 0} (t : Steps S ℕ) (whole : List ℕ) (steps : List Step) (s : S) (lines : List ℕ) : Type 0 where
+  pub few : Few most_slots t steps s
+  pub same : lines ++ page (says t steps s) ≡ whole
+  pub fits : length whole ≤ longest_page
 
--- a candidate that fits, copied into a buffer and read back from its front
-pub copied : {A : Type 0} (xs bs buf : List A) (n : ℕ) → length xs ≤ length bs → n ≡ min (length xs) (length bs) → buf ≡ over xs bs → take (n - 0) buf ≡ xs
-copied xs bs buf n h e q =
-    let k : n - 0 ≡ length xs = omega (arith, h, e) in
-    rw (k, q, over_fits xs bs h) (take_front xs (drop (length xs) bs))
+pub play_first : {S : Type 0} (t : Steps S ℕ) (steps : List Step) (s : S) (lines : List ℕ) → Few most_slots t steps s → length lines + length (page (says t steps s)) ≤ longest_page → Playing t (lines ++ page (says t steps s)) steps s lines
+play_first t steps s lines few h =
+    let long = length-append lines (page (says t steps s)) in
+    record { few = few; same = refl; fits = omega arith }
 
--- what is left of the steps from number i on, written behind the lines so far, makes the whole
-pub record Playing {S : Type 0} (t : Steps S ℕ) (steps : List Step) (s0 : S) (out0 : List ℕ) (i at : ℕ) (s : S) (out : List ℕ) : Type 0 where
-  pub few : Few most_slots t (drop i steps) s
-  pub room : at + length (page (says t (drop i steps) s)) ≤ length out
-  pub end : at + length (page (says t (drop i steps) s)) ≡ length (page (says t steps s0))
-  pub same : over_from at (page (says t (drop i steps) s)) out ≡ over (page (says t steps s0)) out0
-
-pub play_first : {S : Type 0} (t : Steps S ℕ) (steps : List Step) (s0 : S) (out0 : List ℕ) → Few most_slots t steps s0 → length (page (says t steps s0)) ≤ length out0 → Playing t steps s0 out0 0 0 s0 out0
-play_first t steps s0 out0 f h = record { few = f; room = omega (arith, h); end = omega arith; same = refl }
-
--- the step in turn
-pub record Next {S : Type 0} (t : Steps S ℕ) (steps : List Step) (s0 : S) (out0 : List ℕ) (i at : ℕ) (s : S) (out : List ℕ) (step : Step) : Type 0 where
-  pub few : Few most_slots t (step ∷ drop (i + 1) steps) s
-  pub room : at + length (page (says t (step ∷ drop (i + 1) steps) s)) ≤ length out
-  pub end : at + length (page (says t (step ∷ drop (i + 1) steps) s)) ≡ length (page (says t steps s0))
-  pub same : over_from at (page (says t (step ∷ drop (i + 1) steps) s)) out ≡ over (page (says t steps s0)) out0
-
-module _ {S : Type 0} {t : Steps S ℕ} {steps : List Step} {s0 : S} {out0 : List ℕ} {i at : ℕ} {s : S} {out : List ℕ} where
-  pub play_next : Playing t steps s0 out0 i at s out → (d : Step) → i < length steps → Next t steps s0 out0 i at s out (get_or steps i d)
-  play_next p d h =
-      let e : drop i steps ≡ get_or steps i d ∷ drop (i + 1) steps = rw (add-one i) (drop-cons steps i d h) in
-      record {
-        few = rw e at p.few;
-        room = rw e at p.room;
-        end = rw e at p.end;
-        same = rw e at p.same;
-      }
-
-  pub next_room : {step : Step} → Next t steps s0 out0 i at s out step → at + length (line_bytes (turn t step s).says) ≤ length out
-  next_room {step} n =
-      let r = n.room in
-      let l = length-append (line_bytes (turn t step s).says) (page (says t (drop (i + 1) steps) (turn t step s).leaves)) in
-      omega (arith, r, l)
-
-  pub play_on : {step : Step} → Next t steps s0 out0 i at s out step → (at' : ℕ) → at' ≡ at + length (line_bytes (turn t step s).says) → (s' : S) → s' ≡ (turn t step s).leaves → (out' : List ℕ) → out' ≡ over_from at (line_bytes (turn t step s).says) out → Playing t steps s0 out0 (i + 1) at' s' out'
-  play_on {step} n at' a s' b out' c =
+module _ {S : Type 0} {t : Steps S ℕ} {whole : List ℕ} {steps : List Step} {s : S} {lines : List ℕ} where
+  -- there is room for the line of the step in turn
+  pub next_room : {step : Step} → Playing t whole (step ∷ steps) s lines → length lines + length (line_bytes (turn t step s).says) ≤ longest_page
+  next_room {step} p =
       let line = line_bytes (turn t step s).says in
-      let rest = page (says t (drop (i + 1) steps) (turn t step s).leaves) in
-      let l = length-append line rest in
-      let k = length_over_from at line out in
-      let r = n.room in
-      let e = n.end in
-      rw (a, b, c) (record {
-        few = n.few.1;
-        room = omega (arith, l, k, r);
-        end = omega (arith, l, e);
-        same = over_from_append at line rest out ∙ n.same;
+      let rest = page (says t steps (turn t step s).leaves) in
+      let long = ap length p.same in
+      let h = p.fits in
+      let a = length-append lines (line ++ rest) in
+      let b = length-append line rest in
+      omega arith
+
+  pub play_on : {step : Step} → Playing t whole (step ∷ steps) s lines → (s' : S) → s' ≡ (turn t step s).leaves → (lines' : List ℕ) → lines' ≡ lines ++ line_bytes (turn t step s).says → Playing t whole steps s' lines'
+  play_on {step} p s' b lines' c =
+      let line = line_bytes (turn t step s).says in
+      rw (b, c) (record {
+        few = p.few.1;
+        same = append_assoc lines line (page (says t steps (turn t step s).leaves)) ∙ p.same;
+        fits = p.fits;
       })
 
-  pub play_end : Playing t steps s0 out0 i at s out → length steps ≤ i → (at ≡ length (page (says t steps s0))) × (out ≡ over (page (says t steps s0)) out0)
-  play_end p h =
-      let none = drop_of_length-le steps h in
-      let e : at + length (page (says t [] s)) ≡ length (page (says t steps s0)) = rw none at p.end in
-      let q : over_from at (page (says t [] s)) out ≡ over (page (says t steps s0)) out0 = rw none at p.same in
-      (omega (arith, e), sym (over_from_none at out) ∙ q)
+-- the steps from number i on begin with it
+pub from_next : {S : Type 0} {t : Steps S ℕ} {whole : List ℕ} {s : S} {lines : List ℕ} (steps : List Step) (i : ℕ) → Playing t whole (drop i steps) s lines → (d : Step) → i < length steps → Playing t whole (get_or steps i d ∷ drop (i + 1) steps) s lines
+from_next steps i p d h =
+    let e : drop i steps ≡ get_or steps i d ∷ drop (i + 1) steps = rw (add-one i) (drop-cons steps i d h) in
+    rw e at p
+
+pub play_end : {S : Type 0} {t : Steps S ℕ} {whole : List ℕ} {s : S} {lines : List ℕ} (steps : List Step) (i : ℕ) → Playing t whole (drop i steps) s lines → length steps ≤ i → lines ≡ whole
+play_end {lines = lines} steps i p h =
+    let q = rw (drop_of_length-le steps h) at p in
+    sym (append-nil lines) ∙ q.same

@@ -8,13 +8,14 @@
 --   session_number  the number of a session's fault, which is that of the fault below
 --   refusal         what a refused session says: its number, and for a plan the first wrong line
 --   session         the steps' answers, or the fault; the plan is read whole before anything is made
+--   answered        what a session's steps answer: nothing, or the fault
+--   written         the lines of the steps behind those of a page; refused, it writes none
 --   session_says    what a session says in the end
 --   session_bytes   the lines that it writes
 --   longest_page    the most bytes that a session writes
 --   Few             along some steps no candidate has more than so many items
 
-use Rattle.std.specs.Prelude.{ℕ, ◌*◌, ◌≤◌, Bool, false, cond, List, [], ◌∷◌, length, replicate, None, Ok, Err, Result, nat_lt}
-use Rattle.buffers.specs.Over.{over}
+use Rattle.std.specs.Prelude.{ℕ, ◌*◌, ◌≤◌, Bool, false, cond, List, [], ◌∷◌, ◌++◌, length, replicate, None, Ok, Err, Result, nat_lt}
 use Rattle.draws.specs.Faults.{grow_number}
 use Rattle.draws.specs.Sources.{TapeState, tape_words}
 use Rattle.draws.specs.Runners.{RunnerState}
@@ -29,7 +30,6 @@ use Rattle.meaning.specs.Vectors.{VecTree, vec_blank, vec_steps, vec_making, vec
 use Rattle.meaning.specs.declared.size_range.SizeFault.TheVariants.{Reversed}
 use Rattle.meaning.specs.declared.traits.StrategyFault.{StrategyFault}
 use Rattle.plan.specs.Plans.{PlanText, plan_of, plan_number}
-use Rattle.plan.specs.Said.{wrong_line}
 use Rattle.plan.specs.declared.step.Step.{Step}
 use Rattle.plan.specs.declared.step.Step.TheVariants.{View, Simplify, Complicate}
 use Rattle.lines.specs.Lines.{Said, page}
@@ -100,7 +100,7 @@ session_number (Strategy fault) = strategy_number fault
 session_number (Growth fault) = grow_number fault
 
 abbrev pub refusal : SessionFault → Said
-refusal (Plan fault) = refused_at plan_number (wrong_line fault)
+refusal (Plan fault) = refused_at plan_number fault
 refusal (Size fault) = refused (size_number fault)
 refusal (Strategy fault) = refused (strategy_number fault)
 refusal (Growth fault) = refused (grow_number fault)
@@ -111,7 +111,7 @@ played steps b (Ok _) = Ok (says vector steps b.leaves)
 played steps b (Err fault) = Err fault
 
 abbrev pub read : Result PlanText ℕ → Result (List Said) SessionFault
-read (Err line) = Err (Plan (record { line = line }))
+read (Err line) = Err (Plan line)
 read (Ok plan) = played plan.steps (begun plan bench) (begun plan bench).answer
 
 abbrev pub longest_text : ℕ
@@ -120,14 +120,14 @@ longest_text = 8192
 abbrev pub session : List ℕ → Result (List Said) SessionFault
 session text = read (cond (nat_lt longest_text (length text)) (Err 1) (plan_of text))
 
--- a session's answer and page, where only the steps' lines are written
-abbrev pub lengths : Result (List Said) SessionFault → Result ℕ SessionFault
-lengths (Ok said) = Ok (length (page said))
-lengths (Err fault) = Err fault
+-- before the line of a refusal is written
+abbrev pub answered : Result (List Said) SessionFault → Result (Unit {0}) SessionFault
+answered (Ok said) = Ok tt
+answered (Err fault) = Err fault
 
 abbrev pub written : Result (List Said) SessionFault → List ℕ → List ℕ
-written (Ok said) out = over (page said) out
-written (Err fault) out = out
+written (Ok said) bytes = bytes ++ page said
+written (Err fault) bytes = bytes
 
 abbrev pub told : Result (List Said) SessionFault → List Said
 told (Ok said) = said

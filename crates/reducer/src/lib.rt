@@ -3,4 +3,5 @@
 #![tactic(auto)]
 
 pub mod host;
+mod page;
 pub mod session;

@@ -1,15 +1,18 @@
-use Rattle.std.proofs.Common.{◌≡◌, ◌-◌, length, sym, add-one, arith}
+use Rattle.std.proofs.Common.{◌≡◌, ℕ, length, slice_index_or, sym, add-one, arith, rules}
+use Rattle.std.proofs.lemmas.Iterator.{IsFirst-from_position, YieldsList-from_slice}
 use Rattle.std.proofs.lemmas.List.{take_rest}
-use Rattle.plan.proofs.Cutting.{Unmarked, cut_at, cut_none}
+use borrow.Author.Tests.{tests}
+use Rattle.plan.proofs.Cutting.{cut_at, cut_none}
 use Rattle.plan.proofs.parts.cut.Goals as goal
 
-pub returns-then-byte-mark : goal.returns-then-byte-mark
-returns-then-byte-mark c =
-    let start : c.loop-i.i - 0 ≡ c.loop-i.i = omega arith in
-    rw (start, take_rest, add-one)
-    (sym (cut_at c.args.mark c.args.text.now c.loop-i.i c.loop-i-test.true c.loop-i.invariant c.if-byte-mark.true))
+pub returns-in_err-at : goal.returns-in_err-at
+returns-in_err-at c =
+    let first = IsFirst-from_position _ _ _ (λ b. b ≡ c.args.mark) (λ b. b ≡ c.args.mark → ⊥) c.in_err-at.ensures.ran
+    (YieldsList-from_slice c.args.text.now cc) (λ x q k. search (rules, tests)) (λ x q k. (search (rules, tests), search (rules, tests))) in
+    rw c.from_residual.ensures (sym (cut_none c.args.mark c.args.text.now (λ k h. first k 0 (omega arith) h)))
 
 pub returns : goal.returns
 returns c =
-    let free : Unmarked c.args.mark c.args.text.now (length c.args.text.now) = λ k h. c.loop-i.invariant k (omega arith) in
-    sym (cut_none c.args.mark c.args.text.now free)
+    let first = IsFirst-from_position _ _ _ (λ b. b ≡ c.args.mark) (λ b. b ≡ c.args.mark → ⊥) c.in_ok-at.ensures.ran
+    (YieldsList-from_slice c.args.text.now cc) (λ x q k. search (rules, tests)) (λ x q k. (search (rules, tests), search (rules, tests))) in
+    rw (take_rest, add-one) (sym (cut_at c.args.mark c.args.text.now c.in_ok-at.at first.0 (λ k h. first.2 k 0 (omega arith) h) (first.1 0)))

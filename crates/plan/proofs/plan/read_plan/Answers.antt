@@ -16,21 +16,21 @@ ending-none k (b ∷ bs) plan none e f = let z : ⊥ = omega (arith, eqb-true (l
 both : {text : List ℕ} {answer : Result PlanText ℕ} → answer ≡ plan_of text → record { read : answer ≡ plan_of text; faithful : Faithful text answer }
 both e = record { read = e; faithful = faithful_at e }
 
-pub returns-in_default : goal.returns-in_default
+pub returns-in_err-low : goal.returns-in_err-low
 unfolding plan_of
-returns-in_default c = both (search rules)
+returns-in_err-low c = both (search rules)
 
-pub returns-in_default-high_in : goal.returns-in_default-high_in
+pub returns-in_err-high : goal.returns-in_err-high
 unfolding plan_of
-returns-in_default-high_in c = both (search rules)
+returns-in_err-high c = both (search rules)
 
-pub returns-in_default-draws_in : goal.returns-in_default-draws_in
+pub returns-in_err-draws : goal.returns-in_err-draws
 unfolding plan_of
-returns-in_default-draws_in c = both (search rules)
+returns-in_err-draws c = both (search rules)
 
-pub returns-in_default-steps_in : goal.returns-in_default-steps_in
+pub returns-in_err-steps : goal.returns-in_err-steps
 unfolding plan_of
-returns-in_default-steps_in c = both (search rules)
+returns-in_err-steps c = both (search rules)
 
 pub returns-then-not-is_empty : goal.returns-then-not-is_empty
 unfolding plan_of

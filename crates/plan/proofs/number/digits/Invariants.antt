@@ -1,9 +1,0 @@
-use Rattle.std.proofs.Common.{◌≡◌, ◌≤◌, drop}
-use Rattle.plan.specs.Numbers.{largest_word}
-use Rattle.plan.proofs.Digits.{worth}
-use Rattle.plan.proofs.number.digits.Given as goal
-
-abbrev pub invariant-loop-c : goal.invariant-loop-c
-invariant-loop-c l =
-    (worth largest_word l.value (drop l.c-index l.text) ≡ worth largest_word 0 l.text) ×
-    (l.value ≤ largest_word)
