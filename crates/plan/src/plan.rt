@@ -117,7 +117,7 @@ fn part<'a, T, F: FnOnce(PlanLine<'a>) -> Option<T>>(
     requires callable { F.IsAlwaysCallable reads }
     ensures { (line : Seen) × (line_seen line ≡ first_line text.now)
         × MatchResult result (λ p. F.post reads line (Some p.0) × (p.1.now ≡ after_line text.now))
-            (λ k. F.post reads line None × (k ≡ number)) }
+        (λ k. F.post reads line None × (k ≡ number)) }
 {
     let (line, rest) = match cut(text, b'\n') {
         Some((line, rest)) => (read_line(line), rest),

@@ -1,5 +1,4 @@
-use Rattle.std.proofs.Common.{◌≡◌, List, Some, None, Result, sym, subst, arith}
-use Rattle.std.specs.Result.{MatchResult, result_ok}
+use Rattle.std.proofs.Common.{sym, subst, arith}
 use Rattle.std.specs.Str.Parse.{ParsesUnsigned}
 use Rattle.plan.proofs.Numerals.{unread_bytes, unread_number, read_number}
 use Rattle.plan.proofs.Spelling.{value_of, fault_of}

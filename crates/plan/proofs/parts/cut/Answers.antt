@@ -1,4 +1,4 @@
-use Rattle.std.proofs.Common.{◌≡◌, ℕ, length, slice_index_or, sym, add-one, arith, rules}
+use Rattle.std.proofs.Common.{◌≡◌, sym, add-one, arith, rules}
 use Rattle.std.proofs.lemmas.Iterator.{IsFirst-from_position, YieldsList-from_slice}
 use Rattle.std.proofs.lemmas.List.{take_rest}
 use borrow.Author.Tests.{tests}

@@ -1,5 +1,4 @@
 use Rattle.std.proofs.Common.{◌≡◌}
-use Rattle.std.specs.Option.{option_map}
 use Rattle.plan.specs.Lent.{line_seen}
 use Rattle.plan.specs.Plans.{high_in}
 use Rattle.plan.proofs.plan.fn.read_plan.part+2.Given as goal
