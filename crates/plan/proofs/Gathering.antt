@@ -10,10 +10,6 @@ module _ {B : Type 0} where
   after so_far None = None
   after so_far (Some ys) = Some (so_far ++ ys)
 
-  after_none : (o : Option (List B)) → after [] o ≡ o
-  after_none None = refl
-  after_none (Some ys) = refl
-
   after_more : (so_far : List B) (y : B) (o : Option (List B)) → after so_far (first_of (Some y) o) ≡ after (so_far ++ (y ∷ [])) o
   after_more so_far y None = refl
   after_more so_far y (Some ys) = rw append_assoc
@@ -31,9 +27,6 @@ pub record Going {A B : Type 0} (most : ℕ) (read : A → Option B) (so_far : L
   pub fits : length so_far ≤ most
 
 module _ {A B : Type 0} {most : ℕ} {read : A → Option B} where
-  pub starts : (so_far : List B) (xs : List A) → so_far ≡ [] → Going most read so_far xs (at_most most (each read xs))
-  starts so_far xs none = record { comes_to = rw none (ap (at_most most) (after_none (each read xs))); fits = rw none (omega arith) }
-
   module _ {so_far : List B} {left : List A} {answer : Option (List B)} (going : Going most read so_far left answer) where
     pub ends : left ≡ [] → Some so_far ≡ answer
     ends last =

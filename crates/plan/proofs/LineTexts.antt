@@ -1,6 +1,6 @@
 -- The readers of lines accept just the lines of sizes, draws and steps within the bounds.
 use Rattle.std.proofs.Common.{◌≡◌, ℕ, ◌<◌, ◌≤◌, Bool, true, false, cond, ◌&&◌, ltb, List, [], ◌∷◌, ◌++◌, map, Some, None, codes, decimal, Option, sym, refl, ap, ◌∙◌, ⊎_elim, arith, lit<}
-use Rattle.std.specs.List.{AllByRecursion}
+use Rattle.std.specs.List.{AllByRecursion, join_with_byte}
 use Rattle.std.specs.Str.{bytes_eq}
 use Rattle.std.proofs.ByRecursion.{All-append, All-weaker, Decides-by_and}
 use Rattle.std.proofs.lemmas.Slice.Eq.{bytes_eq-Decides}
@@ -8,8 +8,7 @@ use Rattle.std.proofs.lemmas.Bool.{cases_Bool, cond-true, cond-false}
 use Rattle.std.proofs.lemmas.Bool.Decides.{Decides-ltb}
 use Rattle.plan.specs.Lines.{Line, line_of, line_in, keyed_line}
 use Rattle.plan.specs.Lines.Line.{wrong}
-use Rattle.plan.specs.Parts.{Parting, cut, join}
-use Rattle.plan.specs.Parts.Parting.{whole, parted}
+use Rattle.plan.specs.Parts.{cut}
 use Rattle.plan.specs.Plans.{by_kind, low_in, high_in, draws_in, steps_in}
 use Rattle.plan.specs.Texts.{letter, low_text, high_text, draws_text, steps_text, FewDraws, FewSteps}
 use Rattle.plan.specs.Values.{size_of, draws_of, steps_of, largest_size}
@@ -33,13 +32,13 @@ plain text e = (Decides-by_and (λ b. ltb 10 b) (λ b. 10 < b) all_above (λ b. 
 -- `reads` reads just the lines of this key, and their values by `read`
 record Keyed {A : Type 0} (name : List ℕ) (read : List ℕ → Option A) (reads : Line → Option A) : Type 0 where
   above : Above 10 name
-  named : (value : List ℕ) → cut 61 (name ++ (61 ∷ value)) ≡ parted name value
+  named : (value : List ℕ) → cut 61 (name ++ (61 ∷ value)) ≡ Some (name, value)
   unkeyed : reads wrong ≡ None
   keyed : (key value : List ℕ) → reads (keyed_line key value) ≡ cond (bytes_eq key name) (read value) None
 
 -- the key is this one, or it is another
 by_key : {A : Type 0} (name : List ℕ) (read : List ℕ → Option A) (reads : Line → Option A) → all_above name ≡ true
-    → ((value : List ℕ) → cut 61 (name ++ (61 ∷ value)) ≡ parted name value)
+    → ((value : List ℕ) → cut 61 (name ++ (61 ∷ value)) ≡ Some (name, value))
     → reads wrong ≡ None
     → ((value : List ℕ) → reads (keyed_line name value) ≡ read value)
     → ((key value : List ℕ) → bytes_eq key name ≡ false → reads (keyed_line key value) ≡ None)
@@ -87,12 +86,12 @@ pub record Form {A : Type 0} (reads : Line → Option A) (write : A → List ℕ
 
 module _ {A : Type 0} {name : List ℕ} {read : List ℕ → Option A} {reads : Line → Option A} {write : A → List ℕ} {Fine : A → Type 0}
     (k : Keyed name read reads) (s : Spells read write Fine) where
-  line_only : (line : List ℕ) (x : A) (p : Parting) → Rejoins 61 line p → reads (line_in p) ≡ Some x → (line ≡ name ++ (61 ∷ write x)) × Fine x
-  line_only line x whole h e = none_some x (sym k.unkeyed ∙ e)
-  line_only line x (parted key value) h e =
-      let t = test_passed (bytes_eq key name) (read value) x (sym (k.keyed key value) ∙ e) in
-      let o = s.only value x t.1 in
-      let same : key ≡ name = (bytes_eq-Decides key name).0 t.0 in
+  line_only : (line : List ℕ) (x : A) (p : Option (List ℕ × List ℕ)) → Rejoins 61 line p → reads (line_in p) ≡ Some x → (line ≡ name ++ (61 ∷ write x)) × Fine x
+  line_only line x None h e = none_some x (sym k.unkeyed ∙ e)
+  line_only line x (Some p) h e =
+      let t = test_passed (bytes_eq p.0 name) (read p.1) x (sym (k.keyed p.0 p.1) ∙ e) in
+      let o = s.only p.1 x t.1 in
+      let same : p.0 ≡ name = (bytes_eq-Decides p.0 name).0 t.0 in
       (h ∙ rw (same, o.0), o.1)
 
   line_every : (x : A) → Fine x → reads (line_of (name ++ (61 ∷ write x))) ≡ Some x
@@ -114,10 +113,10 @@ over_feed text h = All-weaker (λ b. 32 < b) (λ b. 10 < b) (λ b k. omega arith
 size_above : (n : ℕ) → n ≤ largest_size → Above 10 (decimal n)
 size_above n h = over_feed (decimal n) (decimal_above n (omega arith))
 
-join_above : (ps : List (List ℕ)) → AllByRecursion (Above 32) ps → Above 10 (join 32 ps)
+join_above : (ps : List (List ℕ)) → AllByRecursion (Above 32) ps → Above 10 (join_with_byte 32 ps)
 join_above [] h = tt
 join_above (p ∷ []) h = over_feed p h.0
-join_above (p ∷ (q ∷ qs)) h = All-append (λ b. 10 < b) p (32 ∷ join 32 (q ∷ qs)) (over_feed p h.0) (lit< tt, join_above (q ∷ qs) h.1)
+join_above (p ∷ (q ∷ qs)) h = All-append (λ b. 10 < b) p (32 ∷ join_with_byte 32 (q ∷ qs)) (over_feed p h.0) (lit< tt, join_above (q ∷ qs) h.1)
 
 letter_above : (s : Step) → 10 < letter s
 letter_above View = lit< tt

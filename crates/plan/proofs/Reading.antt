@@ -1,17 +1,17 @@
 -- `plan_of` is faithful: it accepts just the texts of plans within the bounds, and names the first wrong line of any other.
 use Rattle.std.proofs.Common.{◌≡◌, ℕ, suc, ◌<◌, List, [], ◌∷◌, length, drop, Some, None, Ok, Err, Option, Result, sym, refl, ap, ◌∙◌, subst, add-one, arith}
-use Rattle.std.specs.List.{AllByRecursion}
+use Rattle.std.specs.List.{AllByRecursion, join_with_byte}
 use Rattle.std.proofs.lemmas.List.{drop-drop}
+use Rattle.std.proofs.lemmas.List.Splits.{join_with_byte-slice_split}
 use Rattle.plan.specs.Faithful.{lines, Writes, Opens, PlanPart, place, Right, FirstWrong, Faithful, earlier}
 use Rattle.plan.specs.Faithful.PlanPart.{low_line, high_line, draws_line, steps_line, end}
 use Rattle.plan.specs.Lines.{Line, line_of}
-use Rattle.plan.specs.Parts.{Parting, cut, join}
-use Rattle.plan.specs.Parts.Parting.{whole, parted}
+use Rattle.plan.specs.Parts.{cut}
 use Rattle.plan.specs.Plans.{PlanText, plan_of, line, given, line_before, text_after, ending, high_in, draws_in, steps_in}
 use Rattle.plan.specs.Texts.{closed, plan_text, Within, low_text, high_text, draws_text, steps_text}
 use Rattle.plan.specs.declared.step.Step.{Step}
 use Rattle.plan.proofs.Cutting.{pieces_whole, pieces_parted, rejoined}
-use Rattle.plan.proofs.Joining.{cut_past, pieces_some, join_pieces}
+use Rattle.plan.proofs.Joining.{cut_past, pieces_some}
 use Rattle.plan.proofs.LineTexts.{Form, low_form, high_form, draws_form, steps_form}
 use Rattle.plan.proofs.Spelling.{clash, none_some}
 
@@ -32,10 +32,10 @@ module _ {A : Type 0} {reads : Line → Option A} {write : A → List ℕ} {Fine
 
   module _ (k : ℕ) (text : List ℕ) (go_on : A → List ℕ → Result PlanText ℕ) where
     -- what line k comes to, by the parts of the text
-    by_parts : Parting → Result PlanText ℕ
+    by_parts : Option (List ℕ × List ℕ) → Result PlanText ℕ
     by_parts p = given k (reads (line_before p)) (λ x. go_on x (text_after p))
 
-    read_outcome : (l rest : List ℕ) → parted l rest ≡ cut 10 text → (o : Option A) → reads (line_of l) ≡ o → Outcome k text go_on
+    read_outcome : (l rest : List ℕ) → Some (l, rest) ≡ cut 10 text → (o : Option A) → reads (line_of l) ≡ o → Outcome k text go_on
     unfolding by_parts
     read_outcome l rest e None n =
         is_wrong
@@ -48,12 +48,12 @@ module _ {A : Type 0} {reads : Line → Option A} {write : A → List ℕ} {Fine
         reads_as x rest (rejoined 10 text e ∙ ap (λ t. closed t rest) s.0) s.1
         (ap by_parts (sym e) ∙ ap (λ o. given k o (λ x. go_on x rest)) n)
 
-    parts_outcome : (p : Parting) → p ≡ cut 10 text → Outcome k text go_on
+    parts_outcome : (p : Option (List ℕ × List ℕ)) → p ≡ cut 10 text → Outcome k text go_on
     unfolding by_parts
-    parts_outcome whole e =
+    parts_outcome None e =
         is_wrong (λ opens. subst (Opens write Fine) (pieces_whole 10 text e) opens)
         (ap by_parts (sym e) ∙ ap (λ o. given k o (λ x. go_on x [])) form.unread)
-    parts_outcome (parted l rest) e = read_outcome l rest e (reads (line_of l)) refl
+    parts_outcome (Some p) e = read_outcome p.0 p.1 e (reads (line_of p.0)) refl
 
     outcome : Outcome k text go_on
     outcome = parts_outcome (cut 10 text) refl
@@ -125,7 +125,7 @@ module _ (text : List ℕ) where
     where
       wrong : Right end text → ⊥
       wrong none_left =
-          let e : [] ≡ b ∷ bs = ap (join 10) (sym none_left ∙ reached.left) ∙ join_pieces 10 (b ∷ bs) in
+          let e : [] ≡ b ∷ bs = ap (join_with_byte 10) (sym none_left ∙ reached.left) ∙ join_with_byte-slice_split 10 (b ∷ bs) in
           omega (arith, ap length e)
 
   plan_tells : Tells text (plan_of text)

@@ -14,8 +14,7 @@
 use Rattle.std.specs.Prelude.{ℕ, List, [], ◌∷◌, Some, None, Ok, Err, Option, Result}
 use Rattle.plan.specs.Lines.{Line, line_of}
 use Rattle.plan.specs.Lines.Line.{low, high, draws, steps, wrong}
-use Rattle.plan.specs.Parts.{Parting, cut}
-use Rattle.plan.specs.Parts.Parting.{whole, parted}
+use Rattle.plan.specs.Parts.{cut}
 use Rattle.plan.specs.Values.{size_of, draws_of, steps_of}
 use Rattle.plan.specs.declared.step.Step.{Step}
 
@@ -53,13 +52,13 @@ draws_in = by_kind unread unread draws_of unread
 abbrev pub steps_in : Line → Option (List Step)
 steps_in = by_kind unread unread unread steps_of
 
-abbrev pub line_before : Parting → Line
-line_before whole = wrong
-line_before (parted line rest) = line_of line
+abbrev pub line_before : Option (List ℕ × List ℕ) → Line
+line_before None = wrong
+line_before (Some parts) = line_of parts.0
 
-abbrev pub text_after : Parting → List ℕ
-text_after whole = []
-text_after (parted line rest) = rest
+abbrev pub text_after : Option (List ℕ × List ℕ) → List ℕ
+text_after None = []
+text_after (Some parts) = parts.1
 
 abbrev pub first_line : List ℕ → Line
 first_line text = line_before (cut 10 text)

@@ -6,8 +6,7 @@
 --     FewDraws, FewSteps  the draws, and the steps, keep their bounds
 --     Within p            the plan p keeps every bound
 use Rattle.std.specs.Prelude.{ℕ, ◌≤◌, List, [], ◌∷◌, ◌++◌, map, length, codes, decimal}
-use Rattle.std.specs.List.{AllByRecursion}
-use Rattle.plan.specs.Parts.{join}
+use Rattle.std.specs.List.{AllByRecursion, join_with_byte}
 use Rattle.plan.specs.Plans.{PlanText}
 use Rattle.plan.specs.Values.{largest_size, largest_draw, most_draws, most_steps}
 use Rattle.plan.specs.declared.step.Step.{Step}
@@ -25,7 +24,7 @@ abbrev pub high_text : ℕ → List ℕ
 high_text n = codes "high=" ++ decimal n
 
 abbrev pub draws_text : List ℕ → List ℕ
-draws_text ns = codes "draws=" ++ join 32 (map decimal ns)
+draws_text ns = codes "draws=" ++ join_with_byte 32 (map decimal ns)
 
 abbrev pub steps_text : List Step → List ℕ
 steps_text ss = codes "steps=" ++ map letter ss
