@@ -1,5 +1,7 @@
 // The steps of a plan, a letter each.
+ghost use Rattle.std.specs.Prelude.{◌≡◌};
 ghost use Rattle.std.specs.Option.{ok_or};
+ghost use Rattle.plan.specs.Values.{step_of};
 
 use thiserror::Error;
 
@@ -19,10 +21,6 @@ pub struct UnknownLetter(pub u8);
 
 impl TryFrom<u8> for Step {
     type Error = UnknownLetter;
-
-    ghost use Rattle.std.specs.Prelude.{◌≡◌};
-    ghost use Rattle.std.specs.Option.{ok_or};
-    ghost use Rattle.plan.specs.Values.{step_of};
 
     ghost try_from_gives = { λ letter r. r ≡ ok_or (step_of letter) (record { 0 = letter }) };
 

@@ -14,10 +14,10 @@ returns-in_err-value c =
     let text = value_of _ _ c.from_utf8.result c.in_ok-ok.field-0 c.in_ok-ok.ensures.value c.from_utf8.ensures.cases in
     rw c.from_residual-in_err-value.ensures
     (unread_number c.args.most c.args.text.now c.parse.result (subst (λ t. ParsesUnsigned 64 10 t c.parse.result) text.0 c.parse.ensures.value.0)
-    (omega arith) (sym c.if-not-unpadded.ensures) c.if-text-eq43.false c.in_err-value.ensures.value)
+    (omega arith) (sym c.if-not-unpadded.ensures) (λ e. omega arith) c.in_err-value.ensures.value)
 
 pub returns-then-value-most : goal.returns-then-value-most
 returns-then-value-most c =
     let text = value_of _ _ c.from_utf8.result c.in_ok-ok.field-0 c.in_ok-ok.ensures.value c.from_utf8.ensures.cases in
     read_number c.args.most c.args.text.now c.parse.result (subst (λ t. ParsesUnsigned 64 10 t c.parse.result) text.0 c.parse.ensures.value.0)
-    (omega arith) (sym c.if-not-unpadded.ensures) c.if-text-eq43.false c.in_ok-value.value c.in_ok-value.ensures.value c.if-value-most.true
+    (omega arith) (sym c.if-not-unpadded.ensures) (λ e. omega arith) c.in_ok-value.value c.in_ok-value.ensures.value c.if-value-most.true
