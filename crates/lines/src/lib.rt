@@ -56,6 +56,7 @@ pub enum LineFault {
 }
 
 impl LineFault {
+    // Not `From`: faults share numbers, so the number loses which fault it was.
     pub fn number(self) -> u32
         ensures { result ≡ line_number self }
     {
@@ -82,7 +83,8 @@ pub fn write_line(line: Line<'_>, out: &mut [u8]) -> Result<usize, LineFault>
 }
 
 // Writes the line into `out` from `at` on, and answers the place behind it, where the next line goes. The other bytes stay as
-// they were, and so does a whole buffer that is too short.
+// they were, and so does a whole buffer that is too short. The place is the caller's, who keeps it beside the buffer in a type of
+// its own, as the page of a session does; here it is one argument of one write.
 pub fn write_at(line: Line<'_>, out: &mut [u8], at: usize) -> Result<usize, LineFault>
     ensures answer { result ≡ ending (at + length (line_bytes (said line.entry))) out.old }
     ensures buffer { out.new ≡ laid_from at (line_bytes (said line.entry)) out.old }

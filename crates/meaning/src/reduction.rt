@@ -45,7 +45,8 @@ pub struct Reduced {
 }
 
 // What a witness is told of, beside a reduction's report: a step with its answer, a reading, a verdict that says whether the
-// candidate failed, a refused reduction, or the start of one with its budget.
+// candidate failed, a refused reduction, or the start of one with its budget. An enum and no method or closure for each, since a
+// history lists what happened.
 #[derive(Clone, Copy, Debug, PartialEq, Eq)]
 pub enum Notice {
     Simplified(bool),

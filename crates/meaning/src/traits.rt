@@ -170,7 +170,8 @@ pub trait Witness<I> {
     fn hear<T: ValueTree<Item = I>>(&mut self, what: Notice, tree: &T)
         ensures { state self.new ≡ hears (state self.old) (noticed what) (T.ValueTree.steps.candidate (T.ValueTree.state tree.now)) };
 
-    // The report of a reduction: the list that it gave is the first items of `buffer`, as many as the report says.
+    // The report of a reduction: the list that it gave is the first items of `buffer`, as many as the report says. They are two
+    // arguments, since a report is the caller's to keep when the buffer is lent no more.
     fn hear_report<T: ValueTree<Item = I>>(&mut self, report: Reduced, buffer: &[I], tree: &T)
         ensures { state self.new ≡ hears (state self.old) (reported report buffer.now) (T.ValueTree.steps.candidate (T.ValueTree.state tree.now)) };
 }

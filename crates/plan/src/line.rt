@@ -5,7 +5,8 @@ ghost use Rattle.plan.specs.Lent.{line_seen};
 
 use crate::parts::cut;
 
-// A line by its key, which is low, high, draws or steps; any other line is wrong. Whether the value reads is not asked here.
+// A line by its key, which is low, high, draws or steps; any other line is wrong. Whether the value reads is not asked here. `Wrong`
+// is a case and no `Option` round the others: a line is always read, and nothing fails.
 #[derive(Clone, Copy, Debug, PartialEq, Eq)]
 pub enum PlanLine<'a> {
     Low { key: &'a [u8], value: &'a [u8] },

@@ -97,7 +97,7 @@ impl PlanFault {
         self.line
     }
 
-    // The number of the refusal, the same for every line.
+    // The number of the refusal, the same for every line. Not `From`: the number loses the line.
     pub fn number(self) -> u32
         ensures { result ≡ plan_number }
     {

@@ -9,7 +9,7 @@
 --   refusal         what a refused session says: its number, and for a plan the first wrong line
 --   session         the steps' answers, or the fault; the plan is read whole before anything is made
 --   answered        what a session's steps answer: nothing, or the fault
---   written         the lines of the steps behind those of a page; refused, it writes none
+--   appended        the lines of the steps behind those of a page; refused, it writes none
 --   session_says    what a session says in the end
 --   session_bytes   the lines that it writes
 --   longest_page    the most bytes that a session writes
@@ -125,9 +125,9 @@ abbrev pub answered : Result (List Said) SessionFault → Result (Unit {0}) Sess
 answered (Ok said) = Ok tt
 answered (Err fault) = Err fault
 
-abbrev pub written : Result (List Said) SessionFault → List ℕ → List ℕ
-written (Ok said) bytes = bytes ++ page said
-written (Err fault) bytes = bytes
+abbrev pub appended : Result (List Said) SessionFault → List ℕ → List ℕ
+appended (Ok said) bytes = bytes ++ page said
+appended (Err fault) bytes = bytes
 
 abbrev pub told : Result (List Said) SessionFault → List Said
 told (Ok said) = said

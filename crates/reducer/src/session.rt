@@ -1,7 +1,7 @@
 ghost use Rattle.std.specs.Prelude.{◌≡◌, ◌+◌, ◌≤◌, [], ◌++◌, length, IfOk};
 ghost use Rattle.buffers.specs.Over.{laid};
 ghost use Rattle.lines.specs.Lines.{said as line_said, line_bytes, page as lines_of, ending};
-ghost use Rattle.reducer.specs.Sessions.{most_slots, turn, says, Few, begun, session_number, refusal, session, answered, written, session_bytes, longest_page};
+ghost use Rattle.reducer.specs.Sessions.{most_slots, turn, says, Few, begun, session_number, refusal, session, answered, appended, session_bytes, longest_page};
 ghost use Rattle.reducer.specs.declared.session.SessionFault.TheVariants.{Plan as plan_fault, Size as size_fault, Strategy as strategy_fault, Growth as growth_fault};
 ghost use Rattle.reducer.specs.States.{vector_state};
 
@@ -32,6 +32,7 @@ pub enum SessionFault {
 }
 
 impl SessionFault {
+    // Not `From`: faults share numbers, so the number loses which fault it was.
     pub fn number(self) -> u32
         ensures { result ≡ session_number self }
     {
@@ -102,7 +103,8 @@ fn begin<'a>(
     Ok(())
 }
 
-// Makes one step and writes its line.
+// Makes one step and writes its line. The steps are letters of a plan, an enum that its text is read to, and no closures. A view
+// is read into an array of its own, since a session allocates nothing.
 fn answer<T: ValueTree<Item = u64>>(tree: &mut T, step: Step, page: &mut Page)
     requires few { length (T.ValueTree.steps.candidate (T.ValueTree.state tree.old)) ≤ most_slots }
     requires room { length page.old + length (line_bytes (turn T.ValueTree.steps step (T.ValueTree.state tree.old)).says) ≤ longest_page }
@@ -135,7 +137,7 @@ fn play<T: ValueTree<Item = u64>>(tree: &mut T, steps: &[Step], page: &mut Page)
 fn run(text: &[u8], page: &mut Page) -> Result<(), SessionFault>
     requires { page.old ≡ [] }
     ensures answer { result ≡ answered (session text.now) }
-    ensures page { page.new ≡ written (session text.now) page.old }
+    ensures page { page.new ≡ appended (session text.now) page.old }
 {
     if text.len() > 8192 {
         return Err(PlanFault::too_long().into());

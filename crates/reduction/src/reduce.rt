@@ -23,7 +23,8 @@ impl<I> Witness<I> for Silent {
     fn hear_report<T: ValueTree<Item = I>>(&mut self, report: Reduced, buffer: &[I], tree: &T) {}
 }
 
-// A reduction that is not refused: its own events, from the first verdict on, are told to the witness.
+// A reduction that is not refused: its own events, from the first verdict on, are told to the witness. What it takes is what
+// `reduce_before` takes, borrow by borrow: a struct of these borrows would be no plainer, as beside `play` of a trial.
 fn reduce_grown<T: ValueTree, V: Verdict<T::Item>, W: Witness<T::Item>>(
     tree: &mut T,
     verdict: &V,

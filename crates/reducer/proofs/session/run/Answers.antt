@@ -3,7 +3,7 @@ use Rattle.std.proofs.lemmas.Result.{err_from_is_err_and}
 use Rattle.plan.specs.declared.step.Step.{Step}
 use Rattle.lines.specs.Lines.{Said, page}
 use Rattle.reducer.specs.declared.session.SessionFault.{SessionFault}
-use Rattle.reducer.specs.Sessions.{Begun, vector, says, answered, written}
+use Rattle.reducer.specs.Sessions.{Begun, vector, says, answered, appended}
 use Rattle.reducer.specs.States.{stair_state, vector_state}
 use Rattle.reducer.proofs.Running.{grew, roomy}
 use Rattle.reducer.proofs.session.run.Goals as goal
@@ -12,7 +12,7 @@ pub returns-in_err-begin : goal.returns-in_err-begin
 returns-in_err-begin c =
     let p = err_from_is_err_and c.from_residual-in_err-begin.result c.from_residual-in_err-begin.ensures.1 in
     let s = (grew c.args.text.now c.in_ok-plan.plan _ _ _ _ c.if-text-gt8192.false c.in_ok-plan.ensures.read c.place-tree.ensures c.new.ensures (ap stair_state c.place-slots.ensures) c.in_err-begin.ensures).ends in
-    rw (p.1, p.2) (record { answer = ap answered s; page = ap (λ (x : Result (List Said) SessionFault). written x c.args.page.now) s })
+    rw (p.1, p.2) (record { answer = ap answered s; page = ap (λ (x : Result (List Said) SessionFault). appended x c.args.page.now) s })
 
 pub play-requires : goal.play-requires
 play-requires c =
@@ -29,5 +29,5 @@ returns c =
       answer = ap answered s;
       page = c.play.ensures
           ∙ ap (λ (steps : List Step). c.args.page.now ++ page (says vector steps (vector_state c.begin.new.place))) c.steps.ensures
-          ∙ ap (λ (x : Result (List Said) SessionFault). written x c.args.page.now) s;
+          ∙ ap (λ (x : Result (List Said) SessionFault). appended x c.args.page.now) s;
     }
