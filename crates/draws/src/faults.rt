@@ -12,7 +12,7 @@ pub enum DrawFault {
 }
 
 impl DrawFault {
-    // Not `From`: faults share numbers, so the number loses which fault it was.
+    // A method of each fault and no `From`: other faults have the same numbers. No trait: nothing is generic over faults.
     pub fn number(self) -> u32
         ensures { result ≡ draw_number self }
     {
@@ -30,7 +30,7 @@ pub enum RejectFault {
 }
 
 impl RejectFault {
-    // Not `From`: faults share numbers, so the number loses which fault it was.
+    // A method of each fault and no `From`: other faults have the same numbers. No trait: nothing is generic over faults.
     pub fn number(self) -> u32
         ensures { result ≡ reject_number self }
     {
@@ -79,7 +79,7 @@ impl GrowFault {
         }
     }
 
-    // Not `From`: faults share numbers, so the number loses which fault it was.
+    // A method of each fault and no `From`: other faults have the same numbers. No trait: nothing is generic over faults.
     pub fn number(self) -> u32
         ensures { result ≡ grow_number self }
     {
@@ -91,7 +91,8 @@ impl GrowFault {
     }
 }
 
-// By hand: the contracts of growth need to know which fault `?` makes, and a derived `From` has no `from_gives`.
+// By hand: the contracts of growth need to know which fault `?` makes, and a derived `From` has no `from_gives`. Not one impl for
+// both: it would need a `From` for `Cause` of each, and be a third.
 impl From<DrawFault> for GrowFault {
     ghost from_gives = { λ d r. r ≡ record { cause = draw d; element = None } };
 

@@ -20,7 +20,7 @@ pub trait Source: Sized {
 }
 
 // A tape reads the words of a slice in the caller's memory, in order, and is spent after the last.
-#[derive(Clone, Copy)]
+#[derive(Clone, Copy, Debug, PartialEq, Eq)]
 pub struct Tape<'a> {
     words: &'a [u64],
     place: usize,

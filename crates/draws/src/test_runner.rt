@@ -7,8 +7,10 @@ use crate::faults::{DrawFault, RejectFault};
 use crate::source::Source;
 
 // What a strategy grows from: a source of words, and three numbers up to 65,535: the cases that a
-// flatten regrows, the regenerations left over, and the rejections left over. It has no model, since a model's value cannot be
-// of a bound's type `D.State`: clauses name `run`, which takes what a source's state is.
+// flatten regrows, the regenerations left over, and the rejections left over.
+//
+// It has no model, since a model's value cannot be of a bound's type, as `D.State` is: clauses name `run`, which is given what the
+// state of a source is.
 #[derive(Drop)]
 pub struct TestRunner<D> {
     source: D,
@@ -36,11 +38,9 @@ impl<D: Source> TestRunner<D> {
         ensures range { low ≤ high → IfOk result (λ v. (low ≤ v) × (v ≤ high)) }
     {
         let word = self.source.next_word().ok_or(DrawFault::Spent)?;
-        let span = high.saturating_sub(low);
-        if span < u64::MAX {
-            Ok(low + word % (span + 1))
-        } else {
-            Ok(word)
+        match high.saturating_sub(low).checked_add(1) {
+            Some(numbers) => Ok(low + word % numbers),
+            None => Ok(word),
         }
     }
 
@@ -59,12 +59,7 @@ impl<D: Source> TestRunner<D> {
         ensures left { run D.Source.state self.new ≡ parted D.Source.words (run D.Source.state self.old) }
     {
         let source = self.source.split();
-        TestRunner {
-            source,
-            cases: self.cases,
-            regenerations: self.regenerations,
-            rejections: self.rejections,
-        }
+        TestRunner { source, ..*self }
     }
 
     // Whether a regeneration was left, of which one is then used.
@@ -85,11 +80,7 @@ impl<D: Source> TestRunner<D> {
         ensures answer { result ≡ rejection (run D.Source.state self.old).rejections }
         ensures left { run D.Source.state self.new ≡ rejected (run D.Source.state self.old) }
     {
-        if self.rejections > 0 {
-            self.rejections -= 1;
-            Ok(())
-        } else {
-            Err(RejectFault::NoneLeft)
-        }
+        self.rejections = self.rejections.checked_sub(1).ok_or(RejectFault::NoneLeft)?;
+        Ok(())
     }
 }

@@ -25,7 +25,7 @@ pub enum Line<'a> {
     // The answer of a simplify, and that of a complicate.
     Simplified(bool),
     Complicated(bool),
-    // The number of a refusal, alone or with the line of the plan that it names.
+    // The number of a refusal, as it is printed, alone or with the line of the plan that it names: two forms of line.
     Refused(u32),
     RefusedAt(u32, u32),
 }
@@ -56,7 +56,7 @@ pub enum LineFault {
 }
 
 impl LineFault {
-    // Not `From`: faults share numbers, so the number loses which fault it was.
+    // A method of each fault and no `From`: other faults have the same numbers. No trait: nothing is generic over faults.
     pub fn number(self) -> u32
         ensures { result ≡ line_number self }
     {

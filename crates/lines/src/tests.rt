@@ -8,7 +8,7 @@ fn fits(rt: &impl Abort, line: Line<'_>, text: &[u8], out: &mut [u8]) {
     let len = text.len();
     assert!(rt; len <= out.len());
     assert_eq!(rt; write_line(line, out), Ok(len));
-    assert!(rt; &out[0..len] == text);
+    assert_eq!(rt; &out[..len], text);
     assert!(rt; out[len..].iter().all(|b| *b == BLANK));
 }
 
@@ -56,7 +56,7 @@ fn one_line_after_another(rt: HostRuntime) {
         write_at(Line::Complicated(true), &mut out, 13),
         Err(LineFault::TooShort)
     );
-    assert!(rt; &out[0..] == b"v 5 70\ns 1\n\xaa".as_slice());
+    assert_eq!(rt; out.as_slice(), b"v 5 70\ns 1\n\xaa".as_slice());
 }
 
 #[test]

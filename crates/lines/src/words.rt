@@ -1,6 +1,6 @@
 // The form of every line: a word, each of some numbers in decimal after one space, and a line feed.
 //
-// The whole is measured first, so that a buffer that is too short stays as it was; `write!` with a `Display` would fill it.
+// The whole is measured first, so that a buffer that is too short stays as it was.
 ghost use Rattle.std.specs.Prelude.{◌≡◌, ℕ, ◌+◌, ◌-◌, ◌^◌, ◌≤◌, List, min, length, decimal};
 ghost use Rattle.lines.specs.Lines.{written, ending};
 ghost use Rattle.buffers.specs.Over.{over, laid};
@@ -89,7 +89,7 @@ fn put_number(n: u64, out: &mut [u8]) -> usize
 // How many digits `n` has in decimal.
 fn digits(n: u64) -> usize
     ensures count { result ≡ length (decimal n) }
-    ensures bound { result ≤ 40 }
+    ensures bounds { (1 ≤ result) × (result ≤ 20) }
 {
     Buffer::new().format(n).len()
 }

@@ -11,7 +11,7 @@ pub enum SizeFault {
 }
 
 impl SizeFault {
-    // Not `From`: faults share numbers, so the number loses which fault it was.
+    // A method of each fault and no `From`: other faults have the same numbers. No trait: nothing is generic over faults.
     pub fn number(self) -> u32
         ensures { result ≡ size_number self }
     {

@@ -23,7 +23,7 @@ pub enum ReadFault {
 }
 
 impl ReadFault {
-    // Not `From`: faults share numbers, so the number loses which fault it was.
+    // A method of each fault and no `From`: other faults have the same numbers. No trait: nothing is generic over faults.
     pub fn number(self) -> u32
         ensures { result ≡ read_number self }
     {
@@ -43,7 +43,7 @@ pub enum StrategyFault {
 }
 
 impl StrategyFault {
-    // Not `From`: faults share numbers, so the number loses which fault it was.
+    // A method of each fault and no `From`: other faults have the same numbers. No trait: nothing is generic over faults.
     pub fn number(self) -> u32
         ensures { result ≡ strategy_number self }
     {

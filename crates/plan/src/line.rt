@@ -6,7 +6,7 @@ ghost use Rattle.plan.specs.Lent.{line_seen};
 use crate::parts::cut;
 
 // A line by its key, which is low, high, draws or steps; any other line is wrong. Whether the value reads is not asked here. `Wrong`
-// is a case and no `Option` round the others: a line is always read, and nothing fails.
+// is a case and no `Option` round the others: `read_line` answers every text, and a public call that cannot fail stays so.
 #[derive(Clone, Copy, Debug, PartialEq, Eq)]
 pub enum PlanLine<'a> {
     Low { key: &'a [u8], value: &'a [u8] },

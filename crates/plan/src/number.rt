@@ -2,14 +2,11 @@
 ghost use Rattle.std.specs.Prelude.{◌≡◌};
 ghost use Rattle.plan.specs.Numbers.{unpadded, number_of};
 
-// Whether the text is not empty, and no zero stands before another byte.
+// Whether the text is not empty, and no zero stands first before another byte.
 fn unpadded(text: &[u8]) -> bool
     ensures { result ≡ unpadded text.now }
 {
-    match text {
-        [] | [b'0', _, ..] => false,
-        _ => true,
-    }
+    !matches!(text, [] | [b'0', _, ..])
 }
 
 // The number that the text writes, from 0 to `most`. A plus, which `parse` would read, is no part of a number here.

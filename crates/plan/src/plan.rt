@@ -1,5 +1,5 @@
 // A plan, read from its text.
-ghost use Rattle.std.specs.Prelude.{◌≡◌, ◌≤◌, Some, None, MatchResult};
+ghost use Rattle.std.specs.Prelude.{◌≡◌, ◌≤◌, Some, None, MatchResult, length};
 ghost use Rattle.plan.specs.Faithful.{Faithful};
 ghost use Rattle.plan.specs.Lent.{line_seen};
 ghost use Rattle.plan.specs.Plans.{plan_number, plan_of, first_line, after_line};
@@ -8,8 +8,7 @@ ghost use Rattle.plan.specs.declared.line.PlanLine.{PlanLine as Seen};
 use crate::line::{PlanLine, read_line};
 use crate::parts::cut;
 use crate::step::Step;
-use crate::values;
-use crate::values::{MOST_DRAWS, MOST_STEPS};
+use crate::values::{self, MOST_DRAWS, MOST_STEPS};
 use arrayvec::ArrayVec;
 use std::marker::Model;
 use thiserror::Error;
@@ -48,14 +47,16 @@ impl Plan {
 
     // The draws in their order, at most 256.
     pub fn draws(&self) -> &[u64]
-        ensures { result.now ≡ self.now.draws }
+        ensures values { result.now ≡ self.now.draws }
+        ensures few { length result.now ≤ 256 }
     {
         &self.draws
     }
 
     // The steps in their order, at most 1,024.
     pub fn steps(&self) -> &[Step]
-        ensures { result.now ≡ self.now.steps }
+        ensures values { result.now ≡ self.now.steps }
+        ensures few { length result.now ≤ 1024 }
     {
         &self.steps
     }
@@ -97,7 +98,7 @@ impl PlanFault {
         self.line
     }
 
-    // The number of the refusal, the same for every line. Not `From`: the number loses the line.
+    // The number of the refusal, the same for every line. No `From`: the number loses the line.
     pub fn number(self) -> u32
         ensures { result ≡ plan_number }
     {
@@ -123,10 +124,8 @@ fn part<'a, T, F: FnOnce(PlanLine<'a>) -> Option<T>>(
         Some((line, rest)) => (read_line(line), rest),
         None => (PlanLine::Wrong, b"".as_slice()),
     };
-    match reads(line) {
-        Some(value) => Ok((value, rest)),
-        None => Err(PlanFault { line: number }),
-    }
+    let value = reads(line).ok_or(PlanFault { line: number })?;
+    Ok((value, rest))
 }
 
 // Reads a plan: four lines in this order, each closed by a line feed, and nothing after them.

@@ -5,7 +5,7 @@ ghost use Rattle.plan.specs.Values.{step_of};
 
 use thiserror::Error;
 
-// One step: show the value, or try to make it simpler or less simple.
+// One step: show the value, or try to make it simpler or less simple. The default fills the unused places of an `ArrayVec`.
 #[derive(Clone, Copy, Debug, Default, PartialEq, Eq)]
 pub enum Step {
     #[default]

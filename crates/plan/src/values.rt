@@ -34,7 +34,8 @@ pub fn draws(value: &[u8]) -> Option<ArrayVec<u64, MOST_DRAWS>>
     Some(draws)
 }
 
-// The steps, a letter each.
+// The steps, a letter each. The loop is that of `draws` with another reading: one function of an iterator for both would be longer
+// than the two.
 pub fn steps(value: &[u8]) -> Option<ArrayVec<Step, MOST_STEPS>>
     ensures { option_map (λ v. v.items) result ≡ steps_of value.now }
 {

@@ -7,7 +7,7 @@ use lines::{Line, write_at};
 use std::marker::Model;
 
 // The most bytes that a session writes: 1,024 views of 64 items of one digit.
-const LONGEST: usize = 133120;
+pub(crate) const LONGEST: usize = 133120;
 
 // No ArrayVec: it lends no room behind its end, and a line is written there without a copy.
 #[derive(Drop)]

@@ -5,6 +5,7 @@ ghost use Rattle.reducer.specs.Sessions.{most_slots, turn, says, Few, begun, ses
 ghost use Rattle.reducer.specs.declared.session.SessionFault.TheVariants.{Plan as plan_fault, Size as size_fault, Strategy as strategy_fault, Growth as growth_fault};
 ghost use Rattle.reducer.specs.States.{vector_state};
 
+use crate::page;
 use crate::page::Page;
 use draws::faults::GrowFault;
 use draws::source::Tape;
@@ -17,6 +18,12 @@ use plan::{Plan, PlanFault, Step, read_plan};
 use tables::slice_table::SliceTable;
 use thiserror::Error;
 use vectors::collection::{VecValueTree, vec};
+
+// No plan's text is longer.
+pub const LONGEST_TEXT: usize = 8192;
+
+// The most bytes that a session writes.
+pub const LONGEST_PAGE: usize = page::LONGEST;
 
 // Why a session is refused: the fault of the layer below, whole.
 #[derive(Clone, Copy, Debug, PartialEq, Eq, Error)]
@@ -32,7 +39,7 @@ pub enum SessionFault {
 }
 
 impl SessionFault {
-    // Not `From`: faults share numbers, so the number loses which fault it was.
+    // A method of each fault and no `From`: other faults have the same numbers. No trait: nothing is generic over faults.
     pub fn number(self) -> u32
         ensures { result ≡ session_number self }
     {
@@ -133,13 +140,14 @@ fn play<T: ValueTree<Item = u64>>(tree: &mut T, steps: &[Step], page: &mut Page)
     }
 }
 
-// Runs the plan's session and writes the lines of its steps; refused, it writes nothing.
+// Runs the plan's session and writes the lines of its steps; refused, it writes nothing. The slots are an array, since a session
+// allocates nothing.
 fn run(text: &[u8], page: &mut Page) -> Result<(), SessionFault>
     requires { page.old ≡ [] }
     ensures answer { result ≡ answered (session text.now) }
     ensures page { page.new ≡ appended (session text.now) page.old }
 {
-    if text.len() > 8192 {
+    if text.len() > LONGEST_TEXT {
         return Err(PlanFault::too_long().into());
     }
     let plan = read_plan(text)?;

@@ -24,7 +24,8 @@ impl<'a, T> SliceTable<'a, T> {
     }
 }
 
-// Steps the tree in slot `i`: it is copied out, stepped, and stored back. Past the end nothing is stepped.
+// Steps the tree in slot `i`: it is copied out, stepped, and stored back, the form in which the project wants its tables, with one
+// store of a whole tree. Past the end nothing is stepped.
 fn step_at<T: Copy, F: FnOnce(&mut T) -> bool>(slots: &mut [T], i: usize, step: F) -> bool
     requires { F.IsAlwaysCallable step }
     ensures { MatchOption (slice_get slots.old i) ((result ≡ false) × (slots.new ≡ slots.old)) (λ x. (y : T) × FnOnceReturnsAtMut F.FnOnce step x result y × (slots.new ≡ slice_set slots.old i y)) }

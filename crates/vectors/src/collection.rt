@@ -4,7 +4,7 @@ ghost use Rattle.meaning.specs.Vectors.{VecTree, vec_blank, vec_steps, vec_makin
 ghost use Rattle.meaning.specs.Piles.Pile.{vec as vec_pile};
 ghost use Rattle.vectors.specs.Members.{vec_state};
 
-use crate::included::Included;
+use crate::included::{Included, MOST_ELEMENTS};
 use draws::faults::GrowFault;
 use draws::source::Source;
 use draws::test_runner::TestRunner;
@@ -12,6 +12,9 @@ use meaning::collection::Shrink;
 use meaning::size_range::SizeRange;
 use meaning::traits::{Strategy, StrategyFault, Table, TableStrategy, ValueTree};
 use tables::slice_table::SliceStrategy;
+
+// The most items that a strategy made here may state.
+const MOST_ITEMS: usize = 4096;
 
 // A vector: the elements of a table, of which the included ones are members. Its candidate joins theirs.
 #[derive(Drop)]
@@ -171,10 +174,10 @@ impl<G: TableStrategy + Drop> VecStrategy<G> {
         ensures { MatchResult result (λ s. (vec_making size.high (G.Trees.Table.stated elements size.high) ≡ Ok tt) × (s.elements ≡ elements) × (s.size ≡ size)) (λ fault. vec_making size.high (G.Trees.Table.stated elements size.high) ≡ Err fault) }
     {
         let high = size.high();
-        if high > 256 {
+        if high > MOST_ELEMENTS {
             return Err(StrategyFault::TooLarge);
         }
-        if elements.longest(high) > 4096 {
+        if elements.longest(high) > MOST_ITEMS {
             return Err(StrategyFault::TooLong);
         }
         Ok(VecStrategy { elements, size })
@@ -197,12 +200,12 @@ impl<G: TableStrategy> Strategy for VecStrategy<G> {
     type Tree = VecValueTree<G::Trees>;
 
     fn longest(&self) -> usize {
-        self.elements.longest(self.size.high()).min(4096)
+        self.elements.longest(self.size.high()).min(MOST_ITEMS)
     }
 
     fn lacks_slots(&self, place: &VecValueTree<G::Trees>) -> bool {
         let high = self.size.high();
-        self.elements.lacks_slots(high, &place.elements) || self.elements.longest(high) > 4096
+        self.elements.lacks_slots(high, &place.elements) || self.elements.longest(high) > MOST_ITEMS
     }
 
     fn new_tree<D: Source>(
@@ -213,7 +216,7 @@ impl<G: TableStrategy> Strategy for VecStrategy<G> {
         if self.lacks_slots(place) {
             return Err(GrowFault::too_few_slots());
         }
-        place.grown = false;
+        place.blank();
         let low = self.size.low();
         let size = runner.draw(low as u64, self.size.high() as u64)? as usize;
         for i in 0..size {

@@ -6,10 +6,13 @@ ghost use Rattle.vectors.specs.Numbers.{numbers};
 use arrayvec::ArrayVec;
 use std::marker::Model;
 
+// The most elements that a vector has.
+pub const MOST_ELEMENTS: usize = 256;
+
 // Which of the elements of a vector, of which it has up to 256, are members: for each element, in their order, whether it is one.
 #[derive(Drop)]
 pub struct Included {
-    bits: ArrayVec<bool, 256>,
+    bits: ArrayVec<bool, MOST_ELEMENTS>,
 }
 
 impl Model for Included {
@@ -25,7 +28,7 @@ impl Included {
     pub fn saturated(len: usize) -> Included
         ensures { result ≡ all_of (min len 256) }
     {
-        let mut bits = ArrayVec::from([true; 256]);
+        let mut bits = ArrayVec::from([true; MOST_ELEMENTS]);
         bits.truncate(len);
         Included { bits }
     }
@@ -44,6 +47,7 @@ impl Included {
         self.bits.get(i) == Some(&true)
     }
 
+    // `clear` and `set` are two calls and not one with a truth, as in the bit sets of proptest.
     pub fn clear(&mut self, i: usize)
         ensures { self.new ≡ put self.old i false }
     {
