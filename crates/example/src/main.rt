@@ -124,6 +124,7 @@ impl<'a> Witness<u64> for Printer<'a> {
 // the script.
 fn run(rt: &HostRuntime, script: &[Call<Holds>]) -> anyhow::Result<()> {
     let strategy = vec(Stairs::new(9), SizeRange::new(1, 3)?)?;
+    // slots and result are arrays, since growth and reductions allocate nothing
     let words = [2u64, 5, 7, 4];
     let mut runner = TestRunner::new(Tape::new(&words), 0, 0, 0);
     let mut slots = [Stair::place(); 3];

@@ -3,7 +3,8 @@ use std::process::Abort;
 
 const BLANK: u8 = 0xaa;
 
-// The line stands at the start of a blank buffer, and the rest is blank still.
+// The line stands at the start of a blank buffer, and the rest is blank still. The tests of sessions have a helper of this form for
+// their own call, in a crate above.
 fn fits(rt: &impl Abort, line: Line<'_>, text: &[u8], out: &mut [u8]) {
     let len = text.len();
     assert!(rt; len <= out.len());

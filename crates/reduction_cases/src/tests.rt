@@ -19,6 +19,8 @@ fn grow_three<'a>(place: &mut VecValueTree<SliceTable<'a, Stair>>) -> Result<(),
     Ok(())
 }
 
+// Slots and results are arrays, since growth and reductions allocate nothing.
+//
 // The reduction of 5, 7 and 4 ends so, after so many verdicts, with a result of that length; the buffer of three 9s then holds
 // `left`.
 fn ends<V: Verdict<u64>>(
