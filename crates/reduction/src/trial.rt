@@ -11,11 +11,12 @@ use meaning::reduction::Notice;
 use meaning::traits::{Strategy, ValueTree, Verdict, Witness};
 
 // A call that a script asks for: a step, a reading, or a reduction by a verdict with a budget.
-// It is data, and no table of closures, since the history of a trial is read from it.
-#[derive(Clone, Copy, Debug, PartialEq, Eq)]
+// It is data, and no table of closures, since the history of a trial is read from it. The default fills unused places of a script.
+#[derive(Clone, Copy, Debug, Default, PartialEq, Eq)]
 pub enum Call<V> {
     Simplify,
     Complicate,
+    #[default]
     Look,
     Reduce(V, u32),
 }
