@@ -1,6 +1,5 @@
 mod Beginning
 mod Paging
-mod Playing
 mod Bounds
 mod Running
 mod Examples
