@@ -1,5 +1,6 @@
 mod Beginning
 mod Paging
+mod Scripting
 mod Bounds
 mod Running
 mod Examples

@@ -116,7 +116,11 @@ fn script(steps: &[Step]) -> [Call<Holds>; 1024]
     requires { length steps.now ≤ 1024 }
     ensures { take (length steps.now) result ≡ map entry steps.now }
 {
-    std::array::from_fn(|i| steps.get(i).map_or(Call::Look, |step| call(*step)))
+    let mut script = [Call::Look; 1024];
+    for (i, step) in steps.iter().enumerate() {
+        script[i] = call(*step);
+    }
+    script
 }
 
 // The trial of a plan: it grows the vector, from low to high stairs with the limit 9, from a tape over the draws, and makes the
