@@ -37,7 +37,7 @@ pub ran : (text : List ℕ) (plan : PlanText) (v : Vector) (xs : List Stair) (x 
     → e ≡ record { answer = answered (session text); page = appended (session text) page }
 ran text plan v xs x page e h is f p q s none g =
     let said : played plan.steps (begun plan bench) (begun plan bench).answer ≡ session text =
-        ap read is ∙ ap (λ (t : Bool). read (cond t (Err 1) (plan_of text))) (sym (le-ltb longest_text (length text) h)) in
+    ap read is ∙ ap (λ (t : Bool). read (cond t (Err 1) (plan_of text))) (sym (le-ltb longest_text (length text) h)) in
     g
     ∙ ap (λ (v : Vector). ends plan v page) (on_bench v xs x p q s)
     ∙ ends_session text plan f page none (begun plan bench).answer

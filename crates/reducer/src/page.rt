@@ -78,5 +78,10 @@ impl Witness<u64> for Page {
         }
     }
 
-    fn hear_report<T: ValueTree<Item = u64>>(&mut self, report: Reduced, buffer: &[u64], tree: &T) {}
+    fn hear_report<T: ValueTree<Item = u64>>(
+        &mut self,
+        report: Reduced,
+        buffer: &[u64],
+        tree: &T,
+    ) {}
 }

@@ -25,6 +25,9 @@ use vectors::collection::{VecValueTree, vec};
 // No plan's text is longer.
 pub const LONGEST_TEXT: usize = 8192;
 
+// A plan has no more steps.
+const MOST_STEPS: usize = 1024;
+
 // The most bytes that a session writes.
 pub const LONGEST_PAGE: usize = page::LONGEST;
 
@@ -112,11 +115,11 @@ fn call(step: Step) -> Call<Holds>
 
 // The script of some steps, and readings behind it. An array, since a session allocates nothing, and no ArrayVec, whose items need
 // a default, which a call has not.
-fn script(steps: &[Step]) -> [Call<Holds>; 1024]
+fn script(steps: &[Step]) -> [Call<Holds>; MOST_STEPS]
     requires { length steps.now ≤ 1024 }
     ensures { take (length steps.now) result ≡ map entry steps.now }
 {
-    let mut script = [Call::Look; 1024];
+    let mut script = [Call::Look; MOST_STEPS];
     for (i, step) in steps.iter().enumerate() {
         script[i] = call(*step);
     }
@@ -137,7 +140,14 @@ fn play<'a>(
     let mut runner = TestRunner::new(Tape::new(plan.draws()), 0, 0, 0);
     let steps = plan.steps();
     let script = script(steps);
-    trial(&strategy, &mut runner, place, &script[..steps.len()], &mut [], page)?;
+    trial(
+        &strategy,
+        &mut runner,
+        place,
+        &script[..steps.len()],
+        &mut [],
+        page,
+    )?;
     Ok(())
 }
 
