@@ -1,4 +1,4 @@
-use Rattle.std.proofs.Common.{rules, length-set, ◌∙◌, arith}
+use Rattle.std.proofs.Common.{length-set, ◌∙◌, arith}
 use Rattle.plan.specs.declared.step.Step.TheVariants.{View}
 use Rattle.reducer.specs.States.{entry}
 use Rattle.reducer.proofs.Scripting.{one_more}
