@@ -1,6 +1,6 @@
 mod Beginning
 mod Paging
-mod Playing
+mod Scripting
 mod Bounds
 mod Running
 mod Examples

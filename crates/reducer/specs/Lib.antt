@@ -1,3 +1,4 @@
 pub mod Sessions
+pub mod Pages
 pub mod States
 pub mod Hosts

@@ -1,9 +1,11 @@
 // The page of a session: its lines, one behind another, in fixed memory.
-ghost use Rattle.std.specs.Prelude.{◌≡◌, ◌+◌, ◌≤◌, [], ◌++◌, length};
-ghost use Rattle.lines.specs.Lines.{said as line_said, line_bytes};
-ghost use Rattle.reducer.specs.Sessions.{longest_page};
+ghost use Rattle.std.specs.Prelude.{◌≡◌, ℕ, List, []};
+ghost use Rattle.lines.specs.Lines.{said as line_said};
+ghost use Rattle.reducer.specs.Pages.{with_line, page_hears};
 
 use lines::{Line, write_at};
+use meaning::reduction::{Notice, Reduced};
+use meaning::traits::{ValueTree, Witness};
 use std::marker::Model;
 
 // The most bytes that a session writes: 1,024 views of 64 items of one digit.
@@ -38,12 +40,13 @@ impl Page {
         }
     }
 
-    // Writes a line for which there is room behind the last one.
+    // Writes a line behind the last one, where there is room for it.
     pub(crate) fn put(&mut self, line: Line<'_>)
-        requires { length self.old + length (line_bytes (line_said line)) ≤ longest_page }
-        ensures { self.new ≡ self.old ++ line_bytes (line_said line.entry) }
+        ensures { self.new ≡ with_line self.old (line_said line.entry) }
     {
-        self.used = write_at(line, &mut self.bytes, self.used).unwrap();
+        if let Ok(end) = write_at(line, &mut self.bytes, self.used) {
+            self.used = end;
+        }
     }
 
     pub(crate) fn as_slice(&self) -> &[u8]
@@ -51,4 +54,34 @@ impl Page {
     {
         &self.bytes[..self.used]
     }
+}
+
+// A page writes a line of each step and each reading that it is told of. A view is read into an array, since a session allocates
+// nothing.
+impl Witness<u64> for Page {
+    ghost State = { List ℕ };
+
+    ghost state = { λ p. p };
+
+    ghost hears = { page_hears };
+
+    fn hear<T: ValueTree<Item = u64>>(&mut self, what: Notice, tree: &T) {
+        match what {
+            Notice::Simplified(moved) => self.put(Line::Simplified(moved)),
+            Notice::Complicated(moved) => self.put(Line::Complicated(moved)),
+            Notice::Looked => {
+                let mut items = [0u64; 64];
+                let n = tree.copy_to(&mut items);
+                self.put(Line::View(&items[..n]));
+            }
+            Notice::Judged(_) | Notice::Refused(_) | Notice::Started(_) => {}
+        }
+    }
+
+    fn hear_report<T: ValueTree<Item = u64>>(
+        &mut self,
+        report: Reduced,
+        buffer: &[u64],
+        tree: &T,
+    ) {}
 }

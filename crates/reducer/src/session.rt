@@ -1,9 +1,10 @@
-ghost use Rattle.std.specs.Prelude.{◌≡◌, ◌+◌, ◌≤◌, [], ◌++◌, length, IfOk};
+ghost use Rattle.std.specs.Prelude.{◌≡◌, ◌≤◌, [], map, length, take, IfOk};
 ghost use Rattle.buffers.specs.Over.{laid};
-ghost use Rattle.lines.specs.Lines.{said as line_said, line_bytes, page as lines_of, ending};
-ghost use Rattle.reducer.specs.Sessions.{most_slots, turn, says, Few, begun, session_number, refusal, session, answered, appended, session_bytes, longest_page};
+ghost use Rattle.lines.specs.Lines.{said as line_said, line_bytes, ending};
+ghost use Rattle.reducer.specs.Pages.{ends};
+ghost use Rattle.reducer.specs.Sessions.{session_number, refusal, session, answered, appended, session_bytes};
 ghost use Rattle.reducer.specs.declared.session.SessionFault.TheVariants.{Plan as plan_fault, Size as size_fault, Strategy as strategy_fault, Growth as growth_fault};
-ghost use Rattle.reducer.specs.States.{vector_state};
+ghost use Rattle.reducer.specs.States.{entry, vector_state};
 
 use crate::page;
 use crate::page::Page;
@@ -13,14 +14,19 @@ use draws::test_runner::TestRunner;
 use leaves::stair::{Stair, Stairs};
 use lines::{Line, LineFault};
 use meaning::size_range::{SizeFault, SizeRange};
-use meaning::traits::{StrategyFault, ValueTree, grow};
+use meaning::traits::StrategyFault;
 use plan::{Plan, PlanFault, Step, read_plan};
+use reduction::trial::{Call, trial};
+use reduction::verdicts::Holds;
 use tables::slice_table::SliceTable;
 use thiserror::Error;
 use vectors::collection::{VecValueTree, vec};
 
 // No plan's text is longer.
 pub const LONGEST_TEXT: usize = 8192;
+
+// A plan has no more steps.
+const MOST_STEPS: usize = 1024;
 
 // The most bytes that a session writes.
 pub const LONGEST_PAGE: usize = page::LONGEST;
@@ -96,48 +102,53 @@ impl From<GrowFault> for SessionFault {
     }
 }
 
-// Grows the plan's vector: from low to high stairs with the limit 9, from a tape over the draws.
-fn begin<'a>(
+// The call that a step asks for. A plan asks for no reduction, so which verdicts there could be does not matter.
+fn call(step: Step) -> Call<Holds>
+    ensures { result ≡ entry step }
+{
+    match step {
+        Step::View => Call::Look,
+        Step::Simplify => Call::Simplify,
+        Step::Complicate => Call::Complicate,
+    }
+}
+
+// The script of some steps, and readings behind it. An array, since a session allocates nothing, and no ArrayVec, whose items need
+// a default, which a call has not.
+fn script(steps: &[Step]) -> [Call<Holds>; MOST_STEPS]
+    requires { length steps.now ≤ 1024 }
+    ensures { take (length steps.now) result ≡ map entry steps.now }
+{
+    let mut script = [Call::Look; MOST_STEPS];
+    for (i, step) in steps.iter().enumerate() {
+        script[i] = call(*step);
+    }
+    script
+}
+
+// The trial of a plan: it grows the vector, from low to high stairs with the limit 9, from a tape over the draws, and makes the
+// steps; the page is the witness and writes their lines.
+fn play<'a>(
     plan: &Plan,
     place: &mut VecValueTree<SliceTable<'a, Stair>>,
+    page: &mut Page,
 ) -> Result<(), SessionFault>
-    ensures { record { answer = result; leaves = vector_state place.new } ≡ begun plan.now (vector_state place.old) }
+    ensures { record { answer = result; page = page.new } ≡ ends plan.now (vector_state place.old) page.old }
 {
     let size = SizeRange::new(plan.low(), plan.high())?;
     let strategy = vec(Stairs::new(9), size)?;
     let mut runner = TestRunner::new(Tape::new(plan.draws()), 0, 0, 0);
-    grow(&strategy, &mut runner, place)?;
+    let steps = plan.steps();
+    let script = script(steps);
+    trial(
+        &strategy,
+        &mut runner,
+        place,
+        &script[..steps.len()],
+        &mut [],
+        page,
+    )?;
     Ok(())
-}
-
-// Makes one step and writes its line. The steps are letters of a plan, an enum that its text is read to, and no closures. A view
-// is read into an array of its own, since a session allocates nothing.
-fn answer<T: ValueTree<Item = u64>>(tree: &mut T, step: Step, page: &mut Page)
-    requires few { length (T.ValueTree.steps.candidate (T.ValueTree.state tree.old)) ≤ most_slots }
-    requires room { length page.old + length (line_bytes (turn T.ValueTree.steps step (T.ValueTree.state tree.old)).says) ≤ longest_page }
-    ensures tree { T.ValueTree.state tree.new ≡ (turn T.ValueTree.steps step (T.ValueTree.state tree.old)).leaves }
-    ensures page { page.new ≡ page.old ++ line_bytes (turn T.ValueTree.steps step (T.ValueTree.state tree.old)).says }
-{
-    match step {
-        Step::View => {
-            let mut items = [0u64; 64];
-            let n = tree.copy_to(&mut items);
-            page.put(Line::View(&items[..n]));
-        }
-        Step::Simplify => page.put(Line::Simplified(tree.simplify())),
-        Step::Complicate => page.put(Line::Complicated(tree.complicate())),
-    }
-}
-
-// Makes the steps and writes their lines, one after another.
-fn play<T: ValueTree<Item = u64>>(tree: &mut T, steps: &[Step], page: &mut Page)
-    requires few { Few most_slots T.ValueTree.steps steps.now (T.ValueTree.state tree.old) }
-    requires room { length page.old + length (lines_of (says T.ValueTree.steps steps.now (T.ValueTree.state tree.old))) ≤ longest_page }
-    ensures { page.new ≡ page.old ++ lines_of (says T.ValueTree.steps steps.now (T.ValueTree.state tree.old)) }
-{
-    for step in steps {
-        answer(tree, *step, page);
-    }
 }
 
 // Runs the plan's session and writes the lines of its steps; refused, it writes nothing. The slots are an array, since a session
@@ -153,9 +164,7 @@ fn run(text: &[u8], page: &mut Page) -> Result<(), SessionFault>
     let plan = read_plan(text)?;
     let mut slots = [Stair::place(); 64];
     let mut tree = VecValueTree::place(SliceTable::new(&mut slots));
-    begin(&plan, &mut tree)?;
-    play(&mut tree, plan.steps(), page);
-    Ok(())
+    play(&plan, &mut tree, page)
 }
 
 // Writes what the session says, refused or not.

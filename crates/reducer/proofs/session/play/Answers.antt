@@ -1,17 +1,14 @@
-use Rattle.plan.specs.declared.step.Step.TheVariants.{View}
-use Rattle.reducer.proofs.Playing.{play_first, next_room, play_on, from_next, play_end}
+use Rattle.std.proofs.lemmas.Result.{err_from_is_err_and}
+use Rattle.reduction.specs.Verdicts.{holds, numbered}
+use Rattle.reducer.specs.States.{vector_state}
+use Rattle.reducer.proofs.Beginning.{ends_as}
+use Rattle.reducer.proofs.Scripting.{calls_are}
 use Rattle.reducer.proofs.session.play.Goals as goal
 
-pub loop-step-init : goal.loop-step-init
-loop-step-init g c = play_first g.T.ValueTree.steps c.args.steps.now (g.T.ValueTree.state c.args.tree.now) c.args.page.now c.requires.few c.requires.room
-
-pub answer-requires : goal.answer-requires
-answer-requires g c =
-    let next = from_next _ _ c.loop-step.invariant View c.loop-step-test.true in
-    record { few = next.few.0; room = next_room next }
-
-pub loop-step-preserved : goal.loop-step-preserved
-loop-step-preserved g c = play_on (from_next _ _ c.loop-step.invariant View c.loop-step-test.true) _ c.answer.ensures.tree _ c.answer.ensures.page
+pub returns-in_err-trial : goal.returns-in_err-trial
+returns-in_err-trial c =
+    let p = err_from_is_err_and c.from_residual-in_err-trial.result c.from_residual-in_err-trial.ensures.1 in
+    rw (p.1, p.2) (ends_as c.args.plan.now (vector_state c.args.place.now) c.args.page.now _ c.low.ensures c.high.ensures c.draws.ensures.values (calls_are (λ v xs. holds v.number (numbered xs)) 0 c.script-script.ensures c.steps-steps.ensures.values) c.in_ok-size.ensures c.new-2.ensures c.in_ok-strategy.ensures c.new-3.ensures.words c.new-3.ensures.place c.new-runner.ensures c.in_err-trial.ensures.did)
 
 pub returns : goal.returns
-returns g c = play_end _ _ c.loop-step.invariant c.loop-step-test.false
+returns c = ends_as c.args.plan.now (vector_state c.args.place.now) c.args.page.now _ c.low.ensures c.high.ensures c.draws.ensures.values (calls_are (λ v xs. holds v.number (numbered xs)) 0 c.script-script.ensures c.steps-steps.ensures.values) c.in_ok-size.ensures c.new-2.ensures c.in_ok-strategy.ensures c.new-3.ensures.words c.new-3.ensures.place c.new-runner.ensures c.in_ok-trial.ensures.did
