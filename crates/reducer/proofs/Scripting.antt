@@ -1,8 +1,6 @@
 -- The script of some steps.
 
-use Rattle.std.proofs.Common.{◌≡◌, ℕ, ◌+◌, ◌<◌, Bool, List, [], ◌∷◌, ◌++◌, map, length, get_or, take, set, sym, refl, ap, ◌∙◌}
-use Rattle.std.proofs.lemmas.List.{map_more}
-use Rattle.std.proofs.lemmas.Grind.{take-set_at}
+use Rattle.std.proofs.Common.{◌≡◌, ℕ, Bool, List, [], ◌∷◌, map, refl, ap, ◌∙◌}
 use Rattle.meaning.specs.Runs.{Call}
 use Rattle.meaning.specs.Runs.Call.{simplifying, complicating, looking}
 use Rattle.plan.specs.declared.step.Step.{Step}
@@ -11,15 +9,6 @@ use Rattle.reduction.specs.declared.trial.Call.{Call as Entry}
 use Rattle.reduction.specs.Trials.{called}
 use Rattle.reducer.specs.Pages.{asked}
 use Rattle.reducer.specs.States.{entry}
-
--- one more item written behind those that stand for the first items of a list
-pub one_more : {A B : Type 0} (f : A → B) (xs : List A) (out : List B) (i : ℕ) (d : A) (y : B) → i < length xs → i < length out
-    → take i out ≡ map f (take i xs) → y ≡ f (get_or xs i d) → take (i + 1) (set out i y) ≡ map f (take (i + 1) xs)
-one_more f xs out i d y h k e q =
-    take-set_at out i (i + 1) y refl k
-    ∙ ap (λ (front : List _). front ++ y ∷ []) e
-    ∙ ap (λ z. map f (take i xs) ++ z ∷ []) q
-    ∙ sym (map_more f xs i d h)
 
 module _ {V : Type 0} (judges : V → List ℕ → Bool) (room : ℕ) where
   calls_of : (steps : List Step) → map (called judges room) (map entry steps) ≡ map asked steps

@@ -8,6 +8,7 @@ ghost use Rattle.reducer.specs.States.{entry, vector_state};
 
 use crate::page;
 use crate::page::Page;
+use arrayvec::ArrayVec;
 use draws::faults::GrowFault;
 use draws::source::Tape;
 use draws::test_runner::TestRunner;
@@ -113,15 +114,14 @@ fn call(step: Step) -> Call<Holds>
     }
 }
 
-// The script of some steps, and readings behind it. An array, since a session allocates nothing, and no ArrayVec, whose items need
-// a default, which a call has not.
-fn script(steps: &[Step]) -> [Call<Holds>; MOST_STEPS]
+// The script of some steps, a call each, in fixed memory, since a session allocates nothing.
+fn script(steps: &[Step]) -> ArrayVec<Call<Holds>, MOST_STEPS>
     requires { length steps.now ≤ 1024 }
-    ensures { take (length steps.now) result ≡ map entry steps.now }
+    ensures { result.items ≡ map entry steps.now }
 {
-    let mut script = [Call::Look; MOST_STEPS];
-    for (i, step) in steps.iter().enumerate() {
-        script[i] = call(*step);
+    let mut script = ArrayVec::new();
+    for step in steps {
+        script.push(call(*step));
     }
     script
 }
@@ -138,16 +138,8 @@ fn play<'a>(
     let size = SizeRange::new(plan.low(), plan.high())?;
     let strategy = vec(Stairs::new(9), size)?;
     let mut runner = TestRunner::new(Tape::new(plan.draws()), 0, 0, 0);
-    let steps = plan.steps();
-    let script = script(steps);
-    trial(
-        &strategy,
-        &mut runner,
-        place,
-        &script[..steps.len()],
-        &mut [],
-        page,
-    )?;
+    let script = script(plan.steps());
+    trial(&strategy, &mut runner, place, &script, &mut [], page)?;
     Ok(())
 }
 
