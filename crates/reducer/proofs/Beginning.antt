@@ -15,7 +15,7 @@ use Rattle.meaning.specs.declared.size_range.SizeRange.{SizeRange}
 use Rattle.plan.specs.Plans.{PlanText}
 use Rattle.meaning.specs.declared.size_range.SizeFault.TheVariants.{Reversed}
 use Rattle.reducer.specs.declared.session.SessionFault.TheVariants.{Size, Growth}
-use Rattle.reducer.specs.Sessions.{Vector, vector, stair_limit, over_draws, growth, Begun, grown, made, begun}
+use Rattle.reducer.specs.Sessions.{Vector, vector, stair_limit, over_draws, growth, Begun, grown, made}
 use Rattle.reducer.specs.Pages.{page_hears, asked, Ended, ends_by, ends}
 
 -- growing by these numbers, whatever holds them
@@ -35,24 +35,6 @@ past_size plan v b e m f = rw (e, f) refl
 -- a runner over a tape with no cases, regenerations or rejections
 abbrev pub at_tape : List ℕ → ℕ → RunnerState TapeState
 at_tape words place = record { source = record { words = words; place = place }; cases = 0; regenerations = 0; rejections = 0 }
-
--- a growth by the plan's numbers, as the calls before it hand them on, is what begins its session
-begun_by : (plan : PlanText) (v : Vector) {stairs stairs' : Stairs} {size size' : SizeRange} {low high : ℕ} {words draws : List ℕ} {place : ℕ} {r : RunnerState TapeState} (o : Outcome TapeState Vector)
-    → low ≡ plan.low → high ≡ plan.high → draws ≡ plan.draws
-    → (low ≤ high) × (size.low ≡ low) × (size.high ≡ high)
-    → stairs.limit ≡ stair_limit
-    → (vec_making size.high (size.high * 1) ≡ Ok tt) × (stairs' ≡ stairs) × (size' ≡ size)
-    → words ≡ draws → place ≡ 0 → r ≡ at_tape words place
-    → o ≡ grown_by stairs'.limit size'.low size'.high r v
-    → grown o o.answer ≡ begun plan v
-begun_by plan v {stairs' = stairs'} {size' = size'} {place = place} o l h d sized limit strategy words_are place_is run e =
-    let limit' : stairs'.limit ≡ stair_limit = ap (λ (x : Stairs). x.limit) strategy.1 ∙ limit in
-    let low' : size'.low ≡ plan.low = ap (λ (x : SizeRange). x.low) strategy.2 ∙ sized.1 ∙ l in
-    let high' : size'.high ≡ plan.high = ap (λ (x : SizeRange). x.high) strategy.2 ∙ sized.2 ∙ h in
-    let run' = run ∙ ap (λ (ws : List ℕ). at_tape ws place) (words_are ∙ d) ∙ ap (at_tape plan.draws) place_is in
-    let ordered = sized.0 in
-    ap (λ (o : Outcome TapeState Vector). grown o o.answer) (e ∙ same_growth plan v _ _ _ _ limit' low' high' run')
-    ∙ past_size plan v (ltb plan.high plan.low) (le-ltb plan.high plan.low (omega arith)) (vec_making plan.high (plan.high * 1)) (ap (λ (x : ℕ). vec_making x (x * 1)) (sym (sized.2 ∙ h)) ∙ strategy.0)
 
 -- what a trial was answered and left, for a page
 abbrev pub ended_by : Grown → List ℕ → Ended
@@ -75,8 +57,17 @@ pub ends_as : (plan : PlanText) (v : Vector) (page : List ℕ) {stairs stairs' :
     → words ≡ draws → place ≡ 0 → r ≡ at_tape words place
     → d ≡ tried vector page_hears calls (grown_by stairs'.limit size'.low size'.high r v) [] page
     → ended d ≡ ends plan v page
-ends_as plan v page {stairs' = stairs'} {size' = size'} {r = r} d l h w s sized limit strategy words_are place_is run e =
-    let o = grown_by stairs'.limit size'.low size'.high r v in
-    ap ended (e ∙ ap (λ (calls : List (Call ℕ)). tried vector page_hears calls o [] page) s)
+ends_as plan v page {stairs' = stairs'} {size' = size'} {place = place} {r = r} d l h w s sized limit strategy words_are place_is run e =
+    let limit' : stairs'.limit ≡ stair_limit = ap (λ (x : Stairs). x.limit) strategy.1 ∙ limit in
+    let low' : size'.low ≡ plan.low = ap (λ (x : SizeRange). x.low) strategy.2 ∙ sized.1 ∙ l in
+    let high' : size'.high ≡ plan.high = ap (λ (x : SizeRange). x.high) strategy.2 ∙ sized.2 ∙ h in
+    let run' = run ∙ ap (λ (ws : List ℕ). at_tape ws place) (words_are ∙ w) ∙ ap (at_tape plan.draws) place_is in
+    let ordered = sized.0 in
+    let o = growth plan v in
+    ap ended
+    (e
+    ∙ ap (λ (calls : List (Call ℕ)). tried vector page_hears calls (grown_by stairs'.limit size'.low size'.high r v) [] page) s
+    ∙ ap (λ (o : Outcome TapeState Vector). tried vector page_hears (map asked plan.steps) o [] page) (same_growth plan v _ _ _ _ limit' low' high' run'))
     ∙ ended_grown plan page o o.answer
-    ∙ ap (λ (b : Begun). ends_by plan b b.answer page) (begun_by plan v o l h w sized limit strategy words_are place_is run refl)
+    ∙ ap (λ (b : Begun). ends_by plan b b.answer page)
+    (past_size plan v (ltb plan.high plan.low) (le-ltb plan.high plan.low (omega arith)) (vec_making plan.high (plan.high * 1)) (ap (λ (x : ℕ). vec_making x (x * 1)) (sym (sized.2 ∙ h)) ∙ strategy.0))
