@@ -103,7 +103,8 @@ impl From<GrowFault> for SessionFault {
     }
 }
 
-// The call that a step asks for. A plan asks for no reduction, so which verdicts there could be does not matter.
+// The call that a step asks for. A plan asks for no reduction, so which verdicts there could be does not matter. A function and no
+// `From`, since both types are of other crates; a match and no closures, since steps are the letters of a plan.
 fn call(step: Step) -> Call<Holds>
     ensures { result ≡ entry step }
 {
