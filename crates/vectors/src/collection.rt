@@ -219,6 +219,7 @@ impl<G: TableStrategy> Strategy for VecStrategy<G> {
         place.blank();
         let low = self.size.low();
         let size = runner.draw(low as u64, self.size.high() as u64)? as usize;
+        // by number, as a table grows its trees, and as a fault names them
         for i in 0..size {
             self.elements
                 .grow_at(i, runner, &mut place.elements)
