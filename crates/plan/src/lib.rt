@@ -14,3 +14,4 @@ mod values;
 pub use line::{PlanLine, read_line};
 pub use plan::{Plan, PlanFault, read_plan};
 pub use step::{Step, UnknownLetter};
+pub use values::MOST_STEPS;

@@ -11,6 +11,7 @@ pub const LARGEST_SIZE: u64 = 64;
 
 pub const MOST_DRAWS: usize = 256;
 
+// No plan has more steps.
 pub const MOST_STEPS: usize = 1024;
 
 // A size: one number.

@@ -16,7 +16,7 @@ use leaves::stair::{Stair, Stairs};
 use lines::{Line, LineFault};
 use meaning::size_range::{SizeFault, SizeRange};
 use meaning::traits::StrategyFault;
-use plan::{Plan, PlanFault, Step, read_plan};
+use plan::{MOST_STEPS, Plan, PlanFault, Step, read_plan};
 use reduction::trial::{Call, trial};
 use reduction::verdicts::Holds;
 use tables::slice_table::SliceTable;
@@ -25,9 +25,6 @@ use vectors::collection::{VecValueTree, vec};
 
 // No plan's text is longer.
 pub const LONGEST_TEXT: usize = 8192;
-
-// A plan has no more steps.
-const MOST_STEPS: usize = 1024;
 
 // The most bytes that a session writes.
 pub const LONGEST_PAGE: usize = page::LONGEST;

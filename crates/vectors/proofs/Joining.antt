@@ -4,6 +4,7 @@
 use Rattle.std.proofs.Common.{◌≡◌, ℕ, zero, suc, ◌+◌, ◌-◌, ◌^◌, ◌<◌, ◌≤◌, min, Bool, List, [], ◌∷◌, ◌++◌, length, take, drop, Some, None, sym, refl, ap, ◌∙◌, append_assoc, append-nil, le_refl, arith, length-append, length-drop, take-append-drop, drop_of_length-le, length-take-le}
 use borrow.Rule.Slice.PartMut.{put_mid}
 use Rattle.std.specs.List.{flat_map}
+use Rattle.std.proofs.Math.Seq.{take-append-add, drop-append-add}
 use Rattle.std.proofs.lemmas.Slice.{between_to_end}
 use Rattle.buffers.specs.Over.{over}
 use Rattle.buffers.proofs.Overs.{length_over, over_append_within}
@@ -82,16 +83,6 @@ module _ {I : Type 0} {f : ℕ → List I} {inc : List Bool} {k : ℕ} {left : L
 
 -- copying them all
 
-take_after : {I : Type 0} (xs ys : List I) (n m : ℕ) → length xs ≡ n → take (n + m) (xs ++ ys) ≡ xs ++ take m ys
-take_after [] ys n m e = ap (λ (k : ℕ). take k ys) (let z : n + m ≡ m = omega (arith, e) in z)
-take_after (x ∷ xs) ys zero m e = absurd (omega (arith, e))
-take_after (x ∷ xs) ys (suc n) m e = ap (λ (k : ℕ). take k (x ∷ (xs ++ ys))) (let z : suc n + m ≡ suc (n + m) = omega arith in z) ∙ ap (λ (zs : List _). x ∷ zs) (take_after xs ys n m (omega (arith, e)))
-
-drop_after : {I : Type 0} (xs ys : List I) (n m : ℕ) → length xs ≡ n → drop (n + m) (xs ++ ys) ≡ drop m ys
-drop_after [] ys n m e = ap (λ (k : ℕ). drop k ys) (let z : n + m ≡ m = omega (arith, e) in z)
-drop_after (x ∷ xs) ys zero m e = absurd (omega (arith, e))
-drop_after (x ∷ xs) ys (suc n) m e = ap (λ (k : ℕ). drop k (x ∷ (xs ++ ys))) (let z : suc n + m ≡ suc (n + m) = omega arith in z) ∙ drop_after xs ys n m (omega (arith, e))
-
 -- a part from n on, lent to be copied over
 pub rest_lent : {I : Type 0} (n : ℕ) (b : List I) → take (length b - n) (drop n b) ≡ drop n b
 rest_lent n b = between_to_end b n (length b) (le_refl (length b))
@@ -137,8 +128,8 @@ module _ {I : Type 0} {f : ℕ → List I} {inc : List Bool} {b0 : List I} {left
         count = omega (arith, lj, cc', p, ld, cs, cw);
         same =
             ap (λ (x : List I). take (n + m) x ++ over more (drop (n + m) x)) q
-            ∙ ap (λ (x : List I). x ++ over more (drop (n + m) (take n b ++ part))) (take_after (take n b) part n m front)
-            ∙ ap (λ (x : List I). (take n b ++ take m part) ++ over more x) (drop_after (take n b) part n m front)
+            ∙ ap (λ (x : List I). x ++ over more (drop (n + m) (take n b ++ part))) (ap (λ (k : ℕ). take (k + m) (take n b ++ part)) (sym front) ∙ take-append-add (take n b) part m)
+            ∙ ap (λ (x : List I). (take n b ++ take m part) ++ over more x) (ap (λ (k : ℕ). drop (k + m) (take n b ++ part)) (sym front) ∙ drop-append-add (take n b) part m)
             ∙ append_assoc (take n b) (take m part) (over more (drop m part))
             ∙ ap (λ (x : List I). take n b ++ x) (over_append_within (f i) more (drop n b) m p)
             ∙ ap (λ (x : List I). take n b ++ over x (drop n b)) (sym whole)
