@@ -1,12 +1,12 @@
 // The form of every line: a word, each of some numbers in decimal after one space, and a line feed.
 //
 // The whole is measured first, so that a buffer that is too short stays as it was.
-ghost use Rattle.std.specs.Prelude.{◌≡◌, ℕ, ◌+◌, ◌-◌, ◌^◌, ◌≤◌, List, min, length, decimal};
+ghost use Rattle.std.specs.Prelude.{◌≡◌, ℕ, ◌+◌, ◌-◌, ◌^◌, ◌<◌, ◌≤◌, List, min, length, decimal};
 ghost use Rattle.lines.specs.Lines.{written, ending};
 ghost use Rattle.buffers.specs.Over.{over, laid};
 
 use super::LineFault;
-use itoa::{Buffer, write_digits};
+use itoa::write_digits;
 use std::marker::Model;
 
 // A word, and the numbers behind it; to a contract, the bytes of their line.
@@ -81,15 +81,65 @@ fn put_number(n: u64, out: &mut [u8]) -> usize
     ensures len { result ≡ length (decimal n) }
     ensures buffer { out.new ≡ over (decimal n) out.old }
 {
-    let len = digits(n);
-    write_digits(n, out, len);
-    len
+    if n < 10 {
+        put(&[b'0' + n as u8], out)
+    } else {
+        put_long(n, out)
+    }
 }
 
-// How many digits `n` has in decimal.
+// How many digits `n` has in decimal. One or two, as in the lines of most steps, are told here; longer numbers have functions of
+// their own, so that what is left is small enough to be inlined where a line is written.
 fn digits(n: u64) -> usize
     ensures count { result ≡ length (decimal n) }
     ensures bounds { (1 ≤ result) × (result ≤ 20) }
 {
-    Buffer::new().format(n).len()
+    if n < 10 {
+        1
+    } else if n < 100 {
+        2
+    } else {
+        long_digits(n)
+    }
+}
+
+#[inline(never)]
+fn long_digits(n: u64) -> usize
+    ensures count { result ≡ length (decimal n) }
+    ensures bounds { (1 ≤ result) × (result ≤ 20) }
+{
+    let mut left = n;
+    let mut count = 0;
+    while left >= 10_000 {
+        left /= 10_000;
+        count += 4;
+    }
+    count + short_digits(left)
+}
+
+fn short_digits(n: u64) -> usize
+    requires { n < 10000 }
+    ensures count { result ≡ length (decimal n) }
+    ensures bounds { (1 ≤ result) × (result ≤ 4) }
+{
+    if n < 10 {
+        1
+    } else if n < 100 {
+        2
+    } else if n < 1_000 {
+        3
+    } else {
+        4
+    }
+}
+
+#[inline(never)]
+fn put_long(n: u64, out: &mut [u8]) -> usize
+    requires { length (decimal n) ≤ length out.old }
+    ensures len { result ≡ length (decimal n) }
+    ensures buffer { out.new ≡ over (decimal n) out.old }
+{
+    let len = digits(n);
+    write_digits(n, out, len);
+    len
 }

@@ -23,6 +23,7 @@ pub mod SifterLaws
 pub mod FilterLaws
 pub mod FilterMapLaws
 mod WrapExamples
+pub mod FirstMember
 pub mod SetSteps
 pub mod SetShown
 mod SetGrowth

@@ -3,13 +3,14 @@
 --   set_total    at every state
 --   set_keeps    a sound set keeps its meaning
 
-use Rattle.std.proofs.Common.{◌≡◌, ℕ, zero, suc, ◌<◌, ◌≤◌, Bool, true, false, ltb, List, [], ◌∷◌, length, get_or, drop, Some, None, Option, refl, ap, inl, inr, le_refl, add-suc, suc-add, arith, length-set}
+use Rattle.std.proofs.Common.{◌≡◌, ℕ, zero, suc, ◌<◌, ◌≤◌, Bool, true, false, ltb, List, [], ◌∷◌, length, get_or, Some, None, Option, refl, ap, inl, inr, le_refl, arith, length-set}
 use Rattle.std.proofs.lemmas.Bool.{cond_both, ltb-true}
 use Rattle.meaning.specs.Trees.{Stepped, Steps, stays, Ends, SimplifyKept, ComplicateKept, Total, Keeps}
 use Rattle.meaning.specs.PlaceLaws.{always, placed_total, placed_keeps}
-use Rattle.meaning.specs.Sets.{SetTree, named, with_noted, skipped, first_member, cleared, ran_past, clears_at, set_simplify, set_complicate, bare_set, set_steps}
+use Rattle.meaning.specs.Sets.{SetTree, named, with_noted, first_member, cleared, ran_past, clears_at, set_simplify, set_complicate, bare_set, set_steps}
 use Rattle.meaning.specs.SetLaws.{SetSound, set_sound}
 use Rattle.meaning.specs.Vectors.{members, joined}
+use Rattle.meaning.proofs.FirstMember.{first_is_member}
 use Rattle.meaning.proofs.Included.{members_less, members_put, deleted_and_back}
 
 -- a set shows an item for each of its members
@@ -21,13 +22,6 @@ named_length item i (false ∷ bs) = let rest = named_length item (suc i) bs in 
 put_back_no_less : (bs : List Bool) (last : Option ℕ) → members bs ≤ members (with_noted bs last)
 put_back_no_less bs None = le_refl (members bs)
 put_back_no_less bs (Some i) = (members_put bs i).0
-
--- the first member from a number on is one, unless it lies past the end
-first_is_member : (bs : List Bool) (i : ℕ) → first_member bs i < length bs → get_or bs (first_member bs i) false ≡ true
-first_is_member [] i below = absurd (omega arith)
-first_is_member (true ∷ bs) zero below = refl
-first_is_member (false ∷ bs) zero below = rw (add-suc 0 (skipped bs)) (first_is_member bs zero (omega arith))
-first_is_member (b ∷ bs) (suc i) below = rw (suc-add i (skipped (drop i bs))) (first_is_member bs i (omega arith))
 
 module _ {I : Type 0} where
   pub simplified : (Holds : Stepped (SetTree I) → Type 0) (s : SetTree I) → ((i : ℕ) → s.min_count < members s.included → get_or s.included i false ≡ true → Holds (cleared s i)) → ((i : ℕ) → Holds (ran_past s i)) → Holds (stays s) → Holds (set_simplify s)

@@ -1,8 +1,10 @@
 mod Cutting
 mod Gathering
 mod Spelling
+mod Digits
 mod Numerals
 mod Joining
 mod ValueTexts
 mod LineTexts
+mod LineValues
 mod Reading

@@ -1,19 +1,15 @@
 -- `number_of` accepts just the decimals of the numbers up to its bound.
-use Rattle.std.proofs.Common.{◌≡◌, ℕ, ◌^◌, ◌<◌, ◌≤◌, Bool, true, false, cond, ◌&&◌, eqb, leb, List, [], ◌∷◌, length, get_or, Some, None, Ok, Err, Result, decimal, sym, refl, ap, ◌∙◌, ⊎_elim, arith}
-use Rattle.std.specs.Result.{OkIff, result_ok}
-use Rattle.std.specs.Str.{IsUtf8}
-use Rattle.std.proofs.lemmas.Option.{same_Some}
-use Rattle.std.proofs.lemmas.Str.{IsUtf8-from_ascii}
-use Rattle.std.specs.Str.Parse.{digits_value as value, ParsesUnsigned}
+use Rattle.std.proofs.Common.{◌≡◌, ℕ, ◌^◌, ◌<◌, ◌≤◌, true, ◌&&◌, eqb, leb, List, [], ◌∷◌, length, get_or, Some, decimal, sym, refl, ap, ◌∙◌, ⊎_elim, arith}
+use Rattle.std.specs.Str.Parse.{digits_value as value}
 use Rattle.std.specs.Char.{is_ascii_digit}
 use Rattle.std.specs.List.{AllByRecursion}
 use Rattle.std.specs.Str.{all_ascii_digits}
-use Rattle.std.proofs.lemmas.Fmt.{IsAscii-from_digits, decimal_digit, decimal_nonempty, first_decimal, decimal-digits_value, digits_decimal, digits_value-decimal}
-use Rattle.std.proofs.lemmas.Str.Parse.{IsNumeralModel, numerals_by_value, tells_all_ascii_digits, parse_plain}
+use Rattle.std.proofs.lemmas.Fmt.{decimal_digit, decimal_nonempty, first_decimal, decimal-digits_value, digits_decimal, digits_value-decimal}
+use Rattle.std.proofs.lemmas.Str.Parse.{IsNumeralModel, numerals_by_value, tells_all_ascii_digits}
 use Rattle.std.proofs.lemmas.Bool.{le-leb, leb-true, ne_eqb, eqb-false, not-true, not_from_false, false≢true, and_parts, cases_eq}
 use Rattle.std.proofs.lemmas.Bool.Decides.{nat_tests}
 use Rattle.plan.specs.Numbers.{number_of, digits_value, unpadded}
-use Rattle.plan.proofs.Spelling.{Spells, none_some, test_passed}
+use Rattle.plan.proofs.Spelling.{Spells, test_passed}
 
 own : IsNumeralModel (λ ds. all_ascii_digits ds ≡ true) (value 10)
 own = numerals_by_value _ tells_all_ascii_digits
@@ -39,42 +35,6 @@ unpadded_decimal n h = ⊎_elim zero_is some_is (cases_eq n 0)
 
 number_at : (most : ℕ) (ds : List ℕ) → unpadded ds ≡ true → all_ascii_digits ds ≡ true → value 10 ds ≤ most → number_of most ds ≡ Some (value 10 ds)
 number_at most ds e f h = rw (e, f, le-leb (value 10 ds) most h)
-
--- a text that writes no such number
-number_none : (most : ℕ) (ds : List ℕ) → (unpadded ds ≡ true → all_ascii_digits ds ≡ true → value 10 ds ≤ most → ⊥) → number_of most ds ≡ None
-number_none most ds not = by (unpadded ds) (all_ascii_digits ds) (leb (value 10 ds) most) (λ e f h. not e f (leb-true (value 10 ds) most h))
-  where
-    by : (t u v : Bool) → (t ≡ true → u ≡ true → v ≡ true → ⊥) → cond t (cond (u && v) (Some (value 10 ds)) None) None ≡ None
-    by false u v not = refl
-    by true false v not = refl
-    by true true false not = refl
-    by true true true not = absurd (not refl refl refl)
-
--- a text that is no text of characters; and what `parse` makes of one with no plus in front
-pub unread_bytes : (most : ℕ) (ds : List ℕ) → (IsUtf8 ds → ⊥) → None ≡ number_of most ds
-unread_bytes most ds not = sym (number_none most ds (λ _ f _. not (IsUtf8-from_ascii ds (IsAscii-from_digits ds (own.to ds f)))))
-
-module _ {E : Type 0} (most : ℕ) (ds : List ℕ) (r : Result ℕ E) (parsed : ParsesUnsigned 64 10 ds r) (fits : most < 2 ^ 64)
-    (plain : unpadded ds ≡ true) (first : get_or ds 0 0 ≡ 43 → ⊥) where
-  gives : OkIff r ((all_ascii_digits ds ≡ true) × (0 < length ds) × (value 10 ds < 2 ^ 64)) (value 10 ds)
-  gives = parse_plain own 64 ds r parsed first
-
-  pub unread_number : None ≡ result_ok r → None ≡ number_of most ds
-  unread_number none =
-      sym (number_none most ds (λ _ f h. unread (value 10 ds) r none gives (f, (unpadded_some ds plain).0, omega arith)))
-    where
-      unread : {P : Type 0} (v : ℕ) (r : Result ℕ E) → None ≡ result_ok r → OkIff r P v → P → ⊥
-      unread v (Ok x) e k p = none_some x e
-      unread v (Err d) e k p = k p
-
-  pub read_number : (n : ℕ) → Some n ≡ result_ok r → n ≤ most → Some n ≡ number_of most ds
-  read_number n is h =
-      let k = read (value 10 ds) r is gives in
-      rw k.1 (sym (number_at most ds plain k.0.0 (rw (← k.1) h)))
-    where
-      read : {P : Type 0} (v : ℕ) (r : Result ℕ E) → Some n ≡ result_ok r → OkIff r P v → P × (n ≡ v)
-      read v (Ok x) e k = (k.0, same_Some n x e ∙ k.1)
-      read v (Err d) e k = none_some n (sym e)
 
 pub number_spells : (most : ℕ) → most < 2 ^ 64 → Spells (number_of most) decimal (λ n. n ≤ most)
 number_spells most fits = record { only = only; every = every }

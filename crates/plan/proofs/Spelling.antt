@@ -1,7 +1,5 @@
 -- Readers that accept just what is written for their values.
-use Rattle.std.proofs.Common.{◌≡◌, ℕ, ◌≤◌, Bool, true, false, cond, leb, List, [], ◌∷◌, map, length, Some, None, Option, Ok, Err, Result, sym, refl, ap, ◌∙◌, arith}
-use Rattle.std.specs.Result.{MatchResult, result_ok}
-use Rattle.std.proofs.lemmas.Option.{same_Some}
+use Rattle.std.proofs.Common.{◌≡◌, ℕ, ◌≤◌, Bool, true, false, cond, leb, List, [], ◌∷◌, map, length, Some, None, Option, sym, refl, ap, ◌∙◌, arith}
 use Rattle.std.specs.List.{AllByRecursion}
 use Rattle.std.proofs.lemmas.Bool.{le-leb, leb-true}
 use Rattle.plan.specs.Gather.{each, at_most, first_of}
@@ -17,16 +15,6 @@ clash e = let z : ⊥ = omega arith in absurd z
 
 pub none_some : {B C : Type 0} (x : B) → None ≡ Some x → C
 none_some x e = clash (cc)
-
--- a result of which the value was asked for
-module _ {A E : Type 0} (P : A → Type 0) (Q : E → Type 0) where
-  pub value_of : (r : Result A E) (x : A) → Some x ≡ result_ok r → MatchResult r P Q → P x
-  value_of (Ok y) x e h = rw (same_Some x y e) h
-  value_of (Err d) x e h = none_some x (sym e)
-
-  pub fault_of : {C : Type 0} (r : Result A E) → None ≡ result_ok r → MatchResult r P Q → ((e : E) → Q e → C) → C
-  fault_of (Ok y) e h f = none_some y e
-  fault_of (Err d) e h f = f d h
 
 -- an answer behind a test is there only where the test passes
 pub test_passed : {B : Type 0} (t : Bool) (o : Option B) (x : B) → cond t o None ≡ Some x → (t ≡ true) × (o ≡ Some x)

@@ -136,6 +136,9 @@ fn part<'a, T, F: FnOnce(PlanLine<'a>) -> Option<T>>(
 //     steps=LETTERS  up to 1,024 letters, each v, s or c
 //
 // A number is written in decimal digits, with no leading zero.
+//
+// Not inlined, so that what it moves lies on the stack no longer than the reading.
+#[inline(never)]
 pub fn read_plan(text: &[u8]) -> Result<Plan, PlanFault>
     ensures read { result ≡ plan_of text.now }
     ensures faithful { Faithful text.now result }
@@ -148,14 +151,22 @@ pub fn read_plan(text: &[u8]) -> Result<Plan, PlanFault>
         PlanLine::High { value, .. } => values::size(value),
         _ => None,
     })?;
-    let (draws, text) = part(3, text, |line| match line {
-        PlanLine::Draws { value, .. } => values::draws(value),
+    let (value, text) = part(3, text, |line| match line {
+        PlanLine::Draws { value, .. } => Some(value),
         _ => None,
     })?;
-    let (steps, text) = part(4, text, |line| match line {
-        PlanLine::Steps { value, .. } => values::steps(value),
+    let mut draws = ArrayVec::new();
+    let Some(()) = values::draws(value, &mut draws) else {
+        return Err(PlanFault { line: 3 });
+    };
+    let (value, text) = part(4, text, |line| match line {
+        PlanLine::Steps { value, .. } => Some(value),
         _ => None,
     })?;
+    let mut steps = ArrayVec::new();
+    let Some(()) = values::steps(value, &mut steps) else {
+        return Err(PlanFault { line: 4 });
+    };
     if !text.is_empty() {
         return Err(PlanFault { line: 5 });
     }

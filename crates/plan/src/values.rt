@@ -1,5 +1,5 @@
 // The values of a plan's lines.
-ghost use Rattle.std.specs.Prelude.{◌≡◌};
+ghost use Rattle.std.specs.Prelude.{◌≡◌, []};
 ghost use Rattle.std.specs.Option.{option_map};
 ghost use Rattle.plan.specs.Values.{size_of, draws_of, steps_of};
 
@@ -21,28 +21,29 @@ pub fn size(value: &[u8]) -> Option<usize>
     Some(number(value, LARGEST_SIZE)? as usize)
 }
 
-// The draws: none in the empty value, else the numbers between its spaces.
-pub fn draws(value: &[u8]) -> Option<ArrayVec<u64, MOST_DRAWS>>
-    ensures { option_map (λ v. v.items) result ≡ draws_of value.now }
+// The draws: none in the empty value, else the numbers between its spaces. They go into an empty vector that is lent, since an
+// `Option` of one would be written and copied whole at each move.
+pub fn draws(value: &[u8], draws: &mut ArrayVec<u64, MOST_DRAWS>) -> Option<()>
+    requires { draws.old.items ≡ [] }
+    ensures { option_map (λ _. draws.new.items) result ≡ draws_of value.now }
 {
-    let mut draws = ArrayVec::new();
     if value.is_empty() {
-        return Some(draws);
+        return Some(());
     }
     for word in value.split(|byte| *byte == b' ') {
         draws.try_push(number(word, u64::MAX)?).ok()?;
     }
-    Some(draws)
+    Some(())
 }
 
-// The steps, a letter each. The loop is that of `draws` with another reading: one function of an iterator for both would be longer
-// than the two.
-pub fn steps(value: &[u8]) -> Option<ArrayVec<Step, MOST_STEPS>>
-    ensures { option_map (λ v. v.items) result ≡ steps_of value.now }
+// The steps, a letter each, lent as the draws are. The loop is that of `draws` with another reading: one function of an iterator for
+// both would be longer than the two.
+pub fn steps(value: &[u8], steps: &mut ArrayVec<Step, MOST_STEPS>) -> Option<()>
+    requires { steps.old.items ≡ [] }
+    ensures { option_map (λ _. steps.new.items) result ≡ steps_of value.now }
 {
-    let mut steps = ArrayVec::new();
     for letter in value {
         steps.try_push(Step::try_from(*letter).ok()?).ok()?;
     }
-    Some(steps)
+    Some(())
 }

@@ -1,4 +1,4 @@
-ghost use Rattle.std.specs.Prelude.{◌≡◌, ◌≤◌, [], map, length, take, IfOk};
+ghost use Rattle.std.specs.Prelude.{◌≡◌, ◌≤◌, false, [], map, length, take, IfOk};
 ghost use Rattle.buffers.specs.Over.{laid};
 ghost use Rattle.lines.specs.Lines.{said as line_said, line_bytes, ending};
 ghost use Rattle.reducer.specs.Pages.{ends};
@@ -8,17 +8,15 @@ ghost use Rattle.reducer.specs.States.{entry, vector_state};
 
 use crate::page;
 use crate::page::Page;
-use arrayvec::ArrayVec;
 use draws::faults::GrowFault;
 use draws::source::Tape;
 use draws::test_runner::TestRunner;
 use leaves::stair::{Stair, Stairs};
 use lines::{Line, LineFault};
 use meaning::size_range::{SizeFault, SizeRange};
-use meaning::traits::StrategyFault;
+use meaning::traits::{StrategyFault, ValueTree, Verdict};
 use plan::{MOST_STEPS, Plan, PlanFault, Step, read_plan};
 use reduction::trial::{Call, trial};
-use reduction::verdicts::Holds;
 use tables::slice_table::SliceTable;
 use thiserror::Error;
 use vectors::collection::{VecValueTree, vec};
@@ -100,9 +98,22 @@ impl From<GrowFault> for SessionFault {
     }
 }
 
-// The call that a step asks for. A plan asks for no reduction, so which verdicts there could be does not matter. A function and no
-// `From`, since both types are of other crates; a match and no closures, since steps are the letters of a plan.
-fn call(step: Step) -> Call<Holds>
+// The verdict of a script that asks for no reduction, as that of a plan: with none to keep, the calls of a script take the least
+// room.
+#[derive(Clone, Copy)]
+struct Unasked;
+
+impl Verdict<u64> for Unasked {
+    ghost judges = { λ v xs. false };
+
+    fn fails<T: ValueTree<Item = u64>>(&self, tree: &T) -> bool {
+        false
+    }
+}
+
+// The call that a step asks for. A function and no `From`, since both types are of other crates; a match and no closures, since
+// steps are the letters of a plan.
+fn call(step: Step) -> Call<Unasked>
     ensures { result ≡ entry step }
 {
     match step {
@@ -112,20 +123,21 @@ fn call(step: Step) -> Call<Holds>
     }
 }
 
-// The script of some steps, a call each, in fixed memory, since a session allocates nothing.
-fn script(steps: &[Step]) -> ArrayVec<Call<Holds>, MOST_STEPS>
+// The script of some steps, a call each, laid into an array that is lent: a session allocates nothing, and an `ArrayVec` of so many
+// calls would be copied on the stack on its way out of here.
+fn script<'a>(steps: &[Step], calls: &'a mut [Call<Unasked>; MOST_STEPS]) -> &'a [Call<Unasked>]
     requires { length steps.now ≤ 1024 }
-    ensures { result.items ≡ map entry steps.now }
+    ensures { result.now ≡ map entry steps.now }
 {
-    let mut script = ArrayVec::new();
-    for step in steps {
-        script.push(call(*step));
+    for (i, step) in steps.iter().enumerate() {
+        calls[i] = call(*step);
     }
-    script
+    &calls[..steps.len()]
 }
 
 // The trial of a plan: it grows the vector, from low to high stairs with the limit 9, from a tape over the draws, and makes the
-// steps; the page is the witness and writes their lines.
+// steps; the page is the witness and writes their lines. Not inlined, so that the script is on the stack no longer than the trial.
+#[inline(never)]
 fn play<'a>(
     plan: &Plan,
     place: &mut VecValueTree<SliceTable<'a, Stair>>,
@@ -136,8 +148,9 @@ fn play<'a>(
     let size = SizeRange::new(plan.low(), plan.high())?;
     let strategy = vec(Stairs::new(9), size)?;
     let mut runner = TestRunner::new(Tape::new(plan.draws()), 0, 0, 0);
-    let script = script(plan.steps());
-    trial(&strategy, &mut runner, place, &script, &mut [], page)?;
+    let mut calls = [Call::Look; MOST_STEPS];
+    let script = script(plan.steps(), &mut calls);
+    trial(&strategy, &mut runner, place, script, &mut [], page)?;
     Ok(())
 }
 

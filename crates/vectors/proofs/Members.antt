@@ -1,6 +1,6 @@
 -- The members by their numbers: finding the next one, joining what they show, and walking over them.
 
-use Rattle.std.proofs.Common.{◌≡◌, ℕ, zero, suc, ◌+◌, ◌<◌, ◌≤◌, cond, Bool, true, false, List, [], ◌∷◌, ◌++◌, length, get_or, drop, refl, ap, ◌∙◌, add-one, arith, length-drop, drop-cons}
+use Rattle.std.proofs.Common.{◌≡◌, ℕ, zero, suc, ◌+◌, ◌-◌, ◌<◌, ◌≤◌, cond, Bool, true, false, List, [], ◌∷◌, ◌++◌, length, get_or, drop, refl, sym, ap, ◌∙◌, add-one, arith, length-drop, drop-cons}
 use Rattle.std.specs.List.{flat_map}
 use Rattle.std.proofs.lemmas.List.{get_or-drop}
 use Rattle.meaning.specs.Trees.{Steps}
@@ -8,7 +8,7 @@ use Rattle.meaning.specs.Vectors.{joined, Walked, go_on, walk}
 use Rattle.vectors.specs.Numbers.{numbers}
 
 -- the next member from number i on is number m, with none between
-pub numbers_found : (bs : List Bool) (n i m : ℕ) → n + i ≡ m → m < length bs → get_or bs m false ≡ true → ((k : ℕ) → i ≤ k → k < m → get_or bs k false ≡ false) → numbers i (drop i bs) ≡ m ∷ numbers (m + 1) (drop (m + 1) bs)
+numbers_found : (bs : List Bool) (n i m : ℕ) → n + i ≡ m → m < length bs → get_or bs m false ≡ true → ((k : ℕ) → i ≤ k → k < m → get_or bs k false ≡ false) → numbers i (drop i bs) ≡ m ∷ numbers (m + 1) (drop (m + 1) bs)
 numbers_found bs zero i m e h member none =
     let same : m ≡ i = omega (arith, e) in
     rw (same, add-one i, drop-cons bs i false (omega (arith, e, h)), (rw same at member)) refl
@@ -16,12 +16,18 @@ numbers_found bs (suc n) i m e h member none =
     rw (drop-cons bs i false (omega (arith, e, h)), none i (omega arith) (omega (arith, e)))
     (numbers_found bs n (suc i) m (omega (arith, e)) h member (λ k p q. none k (omega (arith, p)) q))
 
-no_numbers : (bs : List Bool) (i : ℕ) → ((k : ℕ) → k < length bs → get_or bs k false ≡ false) → numbers i bs ≡ []
+-- the first member from number i on stands p places behind it
+pub numbers_first : (bs : List Bool) (i p : ℕ) → p < length (drop i bs) → get_or (drop i bs) p false ≡ true → ((k : ℕ) → k < p → get_or (drop i bs) k false ≡ false)
+    → numbers i (drop i bs) ≡ (i + p) ∷ numbers (i + p + 1) (drop (i + p + 1) bs)
+numbers_first bs i p h member none =
+    let long = length-drop i bs in
+    let same = get_or-drop i bs in
+    numbers_found bs p i (i + p) (omega arith) (omega (arith, h, long)) (sym (same p false) ∙ member)
+    (λ k low high. let e : i + (k - i) ≡ k = omega (arith, low) in ap (λ (n : ℕ). get_or bs n false) (sym e) ∙ sym (same (k - i) false) ∙ none (k - i) (omega (arith, low, high)))
+
+pub no_numbers : (bs : List Bool) (i : ℕ) → ((k : ℕ) → k < length bs → get_or bs k false ≡ false) → numbers i bs ≡ []
 no_numbers [] i none = refl
 no_numbers (b ∷ bs) i none = rw (none 0 (omega arith)) (no_numbers bs (suc i) (λ k h. none (suc k) (omega (arith, h))))
-
-pub numbers_none : (bs : List Bool) (i : ℕ) → ((k : ℕ) → i ≤ k → k < length bs → get_or bs k false ≡ false) → numbers i (drop i bs) ≡ []
-numbers_none bs i none = no_numbers (drop i bs) i (λ k h. get_or-drop i bs k false ∙ none (i + k) (omega arith) (let l = length-drop i bs in omega (arith, h, l)))
 
 pub joined_numbers : {I : Type 0} (f : ℕ → List I) (i : ℕ) (bs : List Bool) → joined f i bs ≡ flat_map f (numbers i bs)
 joined_numbers f i [] = refl

@@ -64,11 +64,15 @@ impl Included {
         }
     }
 
-    // How many are members.
+    // How many are members. A loop over the truths, in which many are added at once, as they are not along `filter` and `count`.
     pub fn count(&self) -> usize
         ensures { result ≡ members self.now }
     {
-        self.bits.iter().filter(|&&bit| bit).count()
+        let mut count = 0;
+        for bit in self.bits.as_slice() {
+            count += usize::from(*bit);
+        }
+        count
     }
 
     // The numbers of the members from number `next` on.
@@ -105,8 +109,11 @@ impl<'a> Iterator for Members<'a> {
 
     ghost remaining = { item_count (λ left. left) };
 
+    // By the part that is left, and not along a range, where each number would be compared with the length once more.
     fn next(&mut self) -> Option<usize> {
-        let number = (self.next..self.included.len()).find(|&i| self.included.test(i))?;
+        let included = self.included;
+        let left = included.bits.as_slice().get(self.next..)?;
+        let number = self.next + left.iter().position(|&bit| bit)?;
         self.next = number + 1;
         Some(number)
     }

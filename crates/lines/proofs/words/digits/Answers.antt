@@ -1,6 +1,9 @@
-use Rattle.std.proofs.Common.{rules}
-use Rattle.std.proofs.lemmas.Fmt.{decimal_nonempty, length-decimal-le}
+use Rattle.std.proofs.Common.{arith, sym}
+use Rattle.lines.proofs.Digits.{one_digit, two_digits}
 use Rattle.lines.proofs.words.digits.Goals as goal
 
-pub returns-clause-bounds : goal.returns-clause-bounds
-returns-clause-bounds c = search (rules, decimal_nonempty, length-decimal-le 20)
+pub returns-then-n-lt10-clause-count : goal.returns-then-n-lt10-clause-count
+returns-then-n-lt10-clause-count c = sym (one_digit c.args.n c.if-n-lt10.true)
+
+pub returns-then-n-lt100-clause-count : goal.returns-then-n-lt100-clause-count
+returns-then-n-lt100-clause-count c = sym (two_digits c.args.n (omega arith) c.if-n-lt100.true)

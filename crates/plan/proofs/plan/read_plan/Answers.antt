@@ -2,6 +2,7 @@ use Rattle.std.proofs.Common.{◌≡◌, ℕ, Bool, true, false, eqb, List, [], 
 use Rattle.std.proofs.lemmas.Bool.{true≢false, eqb-true}
 use Rattle.plan.specs.Faithful.{Faithful}
 use Rattle.plan.specs.Plans.{PlanText, ending, plan_of}
+use Rattle.plan.proofs.LineValues.{no_draws, draws_at, no_steps, steps_at}
 use Rattle.plan.proofs.Reading.{faithful_at}
 use Rattle.plan.proofs.plan.read_plan.Goals as goal
 
@@ -24,18 +25,26 @@ pub returns-in_err-high : goal.returns-in_err-high
 unfolding plan_of
 returns-in_err-high c = both (search rules)
 
-pub returns-in_err-draws : goal.returns-in_err-draws
+pub returns-in_err-value : goal.returns-in_err-value
 unfolding plan_of
-returns-in_err-draws c = both (search rules)
+returns-in_err-value c = both (search (rules, no_draws))
 
-pub returns-in_err-steps : goal.returns-in_err-steps
+pub returns-in_default : goal.returns-in_default
 unfolding plan_of
-returns-in_err-steps c = both (search rules)
+returns-in_default c = both (search (rules, draws_at))
+
+pub returns-in_err-value-2 : goal.returns-in_err-value-2
+unfolding plan_of
+returns-in_err-value-2 c = both (search (rules, draws_at, no_steps))
+
+pub returns-in_default-steps : goal.returns-in_default-steps
+unfolding plan_of
+returns-in_default-steps c = both (search (rules, draws_at, steps_at))
 
 pub returns-then-not-is_empty : goal.returns-then-not-is_empty
 unfolding plan_of
-returns-then-not-is_empty c = both (search (rules, ending-more))
+returns-then-not-is_empty c = both (search (rules, draws_at, steps_at, ending-more))
 
 pub returns : goal.returns
 unfolding plan_of
-returns c = both (search (rules, ending-none))
+returns c = both (search (rules, draws_at, steps_at, ending-none))

@@ -1,6 +1,6 @@
-use Rattle.std.proofs.Common.{◌≡◌, map, take}
+use Rattle.std.proofs.Common.{◌≡◌, length, map, take}
 use Rattle.reducer.specs.States.{entry}
 use Rattle.reducer.proofs.session.script.Given as goal
 
-abbrev pub invariant-loop-step : goal.invariant-loop-step
-invariant-loop-step l = l.script.items ≡ map entry (take l.step-index l.steps)
+abbrev pub invariant-loop-i : goal.invariant-loop-i
+invariant-loop-i l = (length l.calls ≡ 1024) × (take l.i l.calls ≡ map entry (take l.i l.steps))
