@@ -136,9 +136,6 @@ fn part<'a, T, F: FnOnce(PlanLine<'a>) -> Option<T>>(
 //     steps=LETTERS  up to 1,024 letters, each v, s or c
 //
 // A number is written in decimal digits, with no leading zero.
-//
-// Not inlined, so that what it moves lies on the stack no longer than the reading.
-#[inline(never)]
 pub fn read_plan(text: &[u8]) -> Result<Plan, PlanFault>
     ensures read { result ≡ plan_of text.now }
     ensures faithful { Faithful text.now result }

@@ -136,8 +136,7 @@ fn script<'a>(steps: &[Step], calls: &'a mut [Call<Unasked>; MOST_STEPS]) -> &'a
 }
 
 // The trial of a plan: it grows the vector, from low to high stairs with the limit 9, from a tape over the draws, and makes the
-// steps; the page is the witness and writes their lines. Not inlined, so that the script is on the stack no longer than the trial.
-#[inline(never)]
+// steps; the page is the witness and writes their lines.
 fn play<'a>(
     plan: &Plan,
     place: &mut VecValueTree<SliceTable<'a, Stair>>,
