@@ -23,7 +23,7 @@ pub fn size(value: &[u8]) -> Option<usize>
 
 // The draws: none in the empty value, else the numbers between its spaces. They go into an empty vector that is lent, since an
 // `Option` of one would be written and copied whole at each move.
-pub fn draws(value: &[u8], draws: &mut ArrayVec<u64, MOST_DRAWS>) -> Option<()>
+pub(crate) fn draws(value: &[u8], draws: &mut ArrayVec<u64, MOST_DRAWS>) -> Option<()>
     requires { draws.old.items ≡ [] }
     ensures { option_map (λ _. draws.new.items) result ≡ draws_of value.now }
 {
@@ -38,7 +38,7 @@ pub fn draws(value: &[u8], draws: &mut ArrayVec<u64, MOST_DRAWS>) -> Option<()>
 
 // The steps, a letter each, lent as the draws are. The loop is that of `draws` with another reading: one function of an iterator for
 // both would be longer than the two.
-pub fn steps(value: &[u8], steps: &mut ArrayVec<Step, MOST_STEPS>) -> Option<()>
+pub(crate) fn steps(value: &[u8], steps: &mut ArrayVec<Step, MOST_STEPS>) -> Option<()>
     requires { steps.old.items ≡ [] }
     ensures { option_map (λ _. steps.new.items) result ≡ steps_of value.now }
 {
